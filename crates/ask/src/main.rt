@@ -1,0 +1,153 @@
+// The program `ask`: one question a line on standard input, one answer a line on standard output, in
+// order. A question is an operation's name and the bit patterns of its operands, an answer the refusal
+// number and the result; a line that is no question is answered `?`.
+//
+// This file has the stream of lines. parse.rt reads a line, a file for each layer (line.rt) has that
+// layer's questions, and print.rt writes an answer (reply.rt) as text.
+mod line;
+mod parse;
+mod print;
+mod reply;
+
+use crate::parse::asks;
+use crate::print::ROOM;
+use crate::reply::Reply;
+use libc::STDIN_FILENO;
+use libc::STDOUT_FILENO;
+ghost use Prim.Native.Nat.{_+_, _≤_};
+ghost use lib.ListN.{length};
+ghost use Rattle.io.specs.Counts.{Counts};
+ghost use Rattle.ask.specs.Room.{room};
+
+// A line of more bytes is no question.
+const LONGEST: usize = 200000;
+
+// How far a line's text and the output have come.
+struct Place {
+    // how many bytes of a line that has not ended stand in its buffer
+    text: usize,
+    // how many bytes of answers are not written yet
+    out: usize,
+}
+
+// The buffers are made once. The text's has room for one byte more than the longest question, so that
+// a longer line is seen to be longer though its rest is dropped.
+fn main() {
+    let mut chunk = io::large_buffer();
+    let mut text = [0u8; LONGEST + 1];
+    let mut out = io::large_buffer();
+    serve(&mut chunk, &mut text, &mut out);
+}
+
+// Answers every line, and ends with the input. A proved loop has to end, and nothing says that the
+// input does: so the loop counts its turns down, from a number that no run uses up.
+fn serve(chunk: &mut [u8], text: &mut [u8], out: &mut [u8])
+    requires { ⌜ room ≤ length (now out) ⌝ }
+{
+    let mut held = 0;
+    let mut turns = u64::MAX;
+    while turns > 0 {
+        let n = fill(chunk);
+        if n == 0 {
+            return finish(held, text, out);
+        }
+        held = take_all(&chunk[..n], held, text, out);
+        turns -= 1;
+    }
+}
+
+// Reads what there is, as far as the buffer goes. 0: the input has ended, or cannot be read.
+fn fill(chunk: &mut [u8]) -> usize
+    ensures { λ r. ⌜ Counts r (now (chunk .exit)) ⌝ }
+{
+    let got = libc::read(STDIN_FILENO, chunk);
+    io::count(got, chunk)
+}
+
+// Answers the last line where it lacks its newline.
+fn finish(held: usize, text: &mut [u8], out: &mut [u8])
+    requires { ⌜ room ≤ length (now out) ⌝ }
+    requires { ⌜ held ≤ length (now text) ⌝ }
+{
+    if held > 0 {
+        take_all(b"\n", held, text, out);
+    }
+}
+
+// Takes the bytes of one read, after `held` bytes of a line that has not ended. Writes the answers to
+// the lines that end in them, so that who asks by hand is answered at once, and says how many bytes
+// are held then.
+fn take_all(bytes: &[u8], held: usize, text: &mut [u8], out: &mut [u8]) -> usize
+    requires { ⌜ room ≤ length (now out) ⌝ }
+    requires { ⌜ held ≤ length (now text) ⌝ }
+    ensures { λ r. ⌜ r ≤ length (now (text .exit)) ⌝ }
+{
+    let mut p = Place { text: held, out: 0 };
+    let mut i = 0;
+    while i < bytes.len() {
+        p = take(bytes[i], p, text, out);
+        i += 1;
+    }
+    let at = p.out;
+    io::write_all(STDOUT_FILENO, &out[..at]);
+    p.text
+}
+
+// Takes one byte: the end of a line, or one more byte of its text.
+fn take(b: u8, p: Place, text: &mut [u8], out: &mut [u8]) -> Place
+    requires { ⌜ room ≤ length (now out) ⌝ }
+    requires { ⌜ (p .text ≤ length (now text)) × (p .out ≤ length (now out)) ⌝ }
+    ensures { λ r. ⌜ (r .text ≤ length (now (text .exit))) × (r .out ≤ length (now (out .exit))) ⌝ }
+{
+    let n = p.text;
+    if b == b'\n' {
+        let at = answer_line(&text[..n], p.out, out);
+        return Place { text: 0, out: at };
+    }
+    if n < text.len() {
+        text[n] = b;
+        return Place {
+            text: n + 1,
+            out: p.out,
+        };
+    }
+    p
+}
+
+// Puts a line's answer after those that wait.
+fn answer_line(s: &[u8], at: usize, out: &mut [u8]) -> usize
+    requires { ⌜ room ≤ length (now out) ⌝ }
+    requires { ⌜ at ≤ length (now out) ⌝ }
+    ensures { λ r. ⌜ r ≤ length (now (out .exit)) ⌝ }
+{
+    let from = make_room(at, out);
+    print::reply(answer(s), from, out)
+}
+
+// Writes the answers that wait where another one may not fit behind them.
+fn make_room(at: usize, out: &mut [u8]) -> usize
+    requires { ⌜ room ≤ length (now out) ⌝ }
+    requires { ⌜ at ≤ length (now out) ⌝ }
+    ensures { λ r. ⌜ r + room ≤ length (now (out .exit)) ⌝ }
+{
+    if at > out.len() - ROOM {
+        io::write_all(STDOUT_FILENO, &out[..at]);
+        return 0;
+    }
+    at
+}
+
+// The answer to a line.
+fn answer(s: &[u8]) -> Reply {
+    if s.len() > LONGEST {
+        return Reply::Unknown;
+    }
+    let end = parse::name_end(s);
+    let mut x = [0.0; parse::MOST];
+    let count = parse::numbers(&s[end..], &mut x);
+    let name = &s[..end];
+    if asks(name, count, b"remainder", 1) {
+        return reply::number(consts::remainder(x[0]));
+    }
+    line::reply(name, count, x)
+}

@@ -1,0 +1,117 @@
+// Writes an answer: the refusal number in decimal, then each result after a single space, a number in
+// the 16 upper-case hexadecimal digits of its bit pattern, yes or no as 1 or 0, unbounded as U.
+use crate::reply::Reply;
+ghost use mathlib.Core.Path.{_≡_};
+ghost use Prim.Native.Nat.{_+_, _*_, _≤_, _<_};
+ghost use lib.ListN.{length};
+ghost use Rattle.ask.specs.Room.{room};
+
+// No answer's line has more bytes.
+pub const ROOM: usize = 128;
+
+// Puts an answer's line at a place of out, and says where it ends.
+pub fn reply(a: Reply, at: usize, out: &mut [u8]) -> usize
+    requires { ⌜ at + room ≤ length (now out) ⌝ }
+    ensures { λ r. ⌜ r ≤ length (now (out .exit)) ⌝ }
+{
+    let end = answer(a, at, out);
+    put(b"\n", end, out)
+}
+
+// Puts the answer without its newline.
+fn answer(a: Reply, at: usize, out: &mut [u8]) -> usize
+    requires { ⌜ at + room ≤ length (now out) ⌝ }
+    ensures { λ r. ⌜ r + 1 ≤ at + room ⌝ }
+{
+    match a {
+        Reply::Unknown => put(b"?", at, out),
+        Reply::Test(n, yes) => mark(sign(yes), refusal(n, at, out), out),
+        Reply::One(n, x) => numbers(&[x], refusal(n, at, out), out),
+        Reply::Two(n, x, y) => numbers(&[x, y], refusal(n, at, out), out),
+        Reply::Unbounded(n) => mark(b'U', refusal(n, at, out), out),
+    }
+}
+
+// Puts a refusal number.
+fn refusal(n: u8, at: usize, out: &mut [u8]) -> usize
+    requires { ⌜ at + 3 ≤ length (now out) ⌝ }
+    ensures { λ r. ⌜ r ≤ at + 3 ⌝ }
+{
+    if n < 10 {
+        return put(&[b'0' + n], at, out);
+    }
+    if n < 100 {
+        return put(&[b'0' + n / 10, b'0' + n % 10], at, out);
+    }
+    put(
+        &[b'0' + n / 100, b'0' + n / 10 % 10, b'0' + n % 10],
+        at,
+        out,
+    )
+}
+
+// Puts a space and a letter.
+fn mark(b: u8, at: usize, out: &mut [u8]) -> usize
+    requires { ⌜ at + 2 ≤ length (now out) ⌝ }
+    ensures { λ r. ⌜ r ≡ at + 2 ⌝ }
+{
+    put(&[b' ', b], at, out)
+}
+
+fn sign(yes: bool) -> u8 {
+    if yes { b'1' } else { b'0' }
+}
+
+// Puts each number after a space.
+fn numbers(x: &[f64], at: usize, out: &mut [u8]) -> usize
+    requires { ⌜ at + 17 * length (now x) ≤ length (now out) ⌝ }
+    ensures { λ r. ⌜ r ≡ at + 17 * length (now (x .entry)) ⌝ }
+{
+    let mut end = at;
+    let mut i = 0;
+    while i < x.len() {
+        end = number(x[i], end, out);
+        i += 1;
+    }
+    end
+}
+
+// Puts a space and a number, from its last digit to the first.
+fn number(x: f64, at: usize, out: &mut [u8]) -> usize
+    requires { ⌜ at + 17 ≤ length (now out) ⌝ }
+    ensures { λ r. ⌜ r ≡ at + 17 ⌝ }
+{
+    let mut rest = bits::pattern(x);
+    let mut i = 16;
+    while i > 0 {
+        out[at + i] = digit(rest % 16);
+        rest /= 16;
+        i -= 1;
+    }
+    out[at] = b' ';
+    at + 17
+}
+
+// A hexadecimal digit, in upper case.
+fn digit(d: u64) -> u8
+    requires { ⌜ d < 16 ⌝ }
+{
+    if d < 10 {
+        b'0' + d as u8
+    } else {
+        b'A' + (d - 10) as u8
+    }
+}
+
+// Puts a text.
+fn put(s: &[u8], at: usize, out: &mut [u8]) -> usize
+    requires { ⌜ at + length (now s) ≤ length (now out) ⌝ }
+    ensures { λ r. ⌜ r ≡ at + length (now (s .entry)) ⌝ }
+{
+    let mut i = 0;
+    while i < s.len() {
+        out[at + i] = s[i];
+        i += 1;
+    }
+    at + i
+}

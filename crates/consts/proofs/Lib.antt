@@ -1,0 +1,10 @@
+pub mod Readings
+pub mod Decisions
+pub mod Differences
+pub mod Doubles
+pub mod Sums
+pub mod Nearest
+pub mod Multiples
+pub mod Remainders
+pub mod Turns
+pub mod Examples

@@ -1,0 +1,5 @@
+pub mod Refusal
+pub mod Answer
+pub mod Reading
+pub mod Constants
+pub mod Remainder

@@ -1,0 +1,40 @@
+-- Document 01's refusal numbers: why something is refused, and the number of each. Definitions only.
+use mathlib.Core.Bool.{cond}
+use Prim.Native.Nat.{ℕ}
+use lib.Dec.{eqb}
+
+pub data Reason : Type 0 where
+  -- the answer stands
+  accepted : Reason
+  -- a rectangle or an interval has a number out of reach
+  outOfReach : Reason
+  -- its numbers are in reach, and it is not valid
+  notValid : Reason
+  -- a point is no valid latlng, is of size over PI on the circle, or is out of reach on the line
+  badPoint : Reason
+  -- a margin, a size or an error is out of reach; a remainder's argument is NaN or of size over 4 PI
+  badMargin : Reason
+  -- a list's length is no multiple of its record, or over its limit
+  badList : Reason
+  -- the output list has fewer than 4 numbers a piece
+  noRoom : Reason
+  -- the stream has a wrong mark or a short record
+  badRecord : Reason
+
+abbrev pub number : Reason → ℕ
+number accepted = 0
+number outOfReach = 1
+number notValid = 2
+number badPoint = 3
+number badMargin = 4
+number badList = 5
+number noRoom = 6
+number badRecord = 7
+
+-- of two refusals the one that is given: the second counts where the first is 0
+unfoldable pub firstRefusal : ℕ → ℕ → ℕ
+firstRefusal m n = cond (eqb m 0) n m
+
+-- the answer where the refusal number is 0, and else the result that document 01 states beside the number
+abbrev pub given : {A : Type 0} → ℕ → A → A → A
+given n answer otherwise = cond (eqb n 0) answer otherwise

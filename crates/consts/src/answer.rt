@@ -1,0 +1,80 @@
+// Document 01's refusal numbers by name (specs/Refusal.antt has what each means), and the two answers
+// that every layer gives: a yes or no, and a number, each with its refusal number beside it.
+ghost use mathlib.Core.Path.{_≡_};
+ghost use Rattle.consts.specs.Answer.{yesNo, numberAnswer, noUnder, zeroUnder};
+ghost use Rattle.consts.specs.Refusal.{firstRefusal};
+
+pub const ACCEPTED: u8 = 0;
+
+pub const OUT_OF_REACH: u8 = 1;
+
+pub const NOT_VALID: u8 = 2;
+
+pub const BAD_POINT: u8 = 3;
+
+pub const BAD_MARGIN: u8 = 4;
+
+pub const BAD_LIST: u8 = 5;
+
+pub const NO_ROOM: u8 = 6;
+
+pub const BAD_RECORD: u8 = 7;
+
+// A test's answer. A refused test says no.
+pub struct YesNo {
+    pub refusal: u8,
+    pub value: bool,
+}
+
+impl YesNo {
+    pub fn accepted(value: bool) -> YesNo
+        ensures { λ r. ⌜ r ≡ yesNo value ⌝ }
+    {
+        YesNo {
+            refusal: ACCEPTED,
+            value,
+        }
+    }
+
+    pub fn refused(refusal: u8) -> YesNo
+        ensures { λ r. ⌜ r ≡ noUnder refusal ⌝ }
+    {
+        YesNo {
+            refusal,
+            value: false,
+        }
+    }
+}
+
+// A number as an answer. A refused one is zero.
+pub struct Number {
+    pub refusal: u8,
+    pub value: f64,
+}
+
+impl Number {
+    pub fn accepted(value: f64) -> Number
+        ensures { λ r. ⌜ r ≡ numberAnswer value ⌝ }
+    {
+        Number {
+            refusal: ACCEPTED,
+            value,
+        }
+    }
+
+    pub fn refused(refusal: u8) -> Number
+        ensures { λ r. ⌜ r ≡ zeroUnder refusal ⌝ }
+    {
+        Number {
+            refusal,
+            value: 0.0,
+        }
+    }
+}
+
+// Of two refusals the one that is given: the second counts where the first is 0.
+pub fn first_refusal(m: u8, n: u8) -> u8
+    ensures { λ r. ⌜ r ≡ firstRefusal m n ⌝ }
+{
+    if m == 0 { n } else { m }
+}

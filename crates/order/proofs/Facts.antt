@@ -1,0 +1,25 @@
+-- What `omega` reads of tests: with these rules and the keys' laws a fact on the order of doubles is one of linear arithmetic. The transitive laws below
+-- show how. Assumes nothing.
+use mathlib.Core.Path.{_≡_}
+use mathlib.Core.Bool.{true, false}
+use native.Mathlib.Omega.{arith}
+use lib.Ieee.{Float, binary64, lt, le, eq}
+use borrow.Author.Tests.{ltb-true, ltb-false, leb-true, leb-false, eqb-true, eqb-false, lt-ltb, le-ltb, le-leb, lt-leb, eq-eqb, ne-eqb}
+use Rattle.order.specs.Key.{Num}
+use Rattle.order.proofs.Keys.{lt-key, le-key, eq-key}
+
+pub ruleset tests = (ltb-true, ltb-false, leb-true, leb-false, eqb-true, eqb-false, lt-ltb, le-ltb, le-leb, lt-leb, eq-eqb, ne-eqb, arith)
+
+module _ (x y z : Float) (nx : Num x ≡ true) (ny : Num y ≡ true) (nz : Num z ≡ true) where
+  pub le-trans : le x y ≡ true → le y z ≡ true → le x z ≡ true
+  le-trans h k = simp (le-key binary64) (omega (tests, simp (le-key binary64) at h, simp (le-key binary64) at k))
+
+module _ (x y : Float) (nx : Num x ≡ true) (ny : Num y ≡ true) where
+  pub not-le : le x y ≡ false → lt y x ≡ true
+  not-le h = simp (lt-key binary64) (omega (tests, simp (le-key binary64) at h))
+
+  pub not-lt : lt x y ≡ false → le y x ≡ true
+  not-lt h = simp (le-key binary64) (omega (tests, simp (lt-key binary64) at h))
+
+  pub antisym : le x y ≡ true → le y x ≡ true → eq x y ≡ true
+  antisym h k = simp (eq-key binary64) (omega (tests, simp (le-key binary64) at h, simp (le-key binary64) at k))

@@ -1,0 +1,4 @@
+pub mod Keys
+pub mod Ranks
+pub mod Facts
+pub mod Choices

@@ -1,0 +1,15 @@
+-- `order::max`: at each return the answer is the definition's, under the tests that led there. Assumes nothing.
+use Rattle.order.specs.Choice.{larger}
+use Rattle.order.proofs.max.Statement.{statement}
+use Rattle.order.proofs.max.Tie as tie
+
+returns : tie.Need-returns
+unfolding larger
+returns c = simp (c .if1 .taken)
+
+returns-2 : tie.Need-returns-2
+unfolding larger
+returns-2 c = simp (c .if1 .left)
+
+pub max-spec : {M : Type 1} → statement M
+max-spec = tie.close (tie.spec returns returns-2)

@@ -1,0 +1,13 @@
+-- The smaller and the larger of two doubles, and a double's size, written out: what Rust's `f64::min`, `max` and `abs` answer where no NaN comes in,
+-- zeros of either sign being one number. Definitions only; the laws are in proofs/Choice.antt.
+use mathlib.Core.Bool.{cond}
+use lib.Ieee.{Float, binary64, ofBits, lt, neg}
+
+unfoldable pub smaller : Float → Float → Float
+smaller a b = cond (lt b a) b a
+
+unfoldable pub larger : Float → Float → Float
+larger a b = cond (lt a b) b a
+
+unfoldable pub size : Float → Float
+size x = cond (lt x (ofBits binary64 0)) (neg x) x

@@ -1,0 +1,6 @@
+pub mod Readings
+pub mod Accepted
+pub mod Ends
+pub mod Trials
+pub mod Places
+pub mod Distances

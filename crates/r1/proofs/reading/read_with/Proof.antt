@@ -1,0 +1,22 @@
+-- `r1::reading::read_with`: at each return the answer is the definition's, under the tests that led there. Assumes nothing.
+use Rattle.r1.specs.Reading.{readWith}
+use borrow.Author.Needs.{needs}
+use Rattle.r1.proofs.reading.read_with.Statement.{statement}
+use Rattle.r1.proofs.reading.read_with.Tie as tie
+
+read-one-requires : tie.Need-read-one-requires
+read-one-requires c κs = search needs
+
+read-number-requires : tie.Need-read-number-requires
+read-number-requires c κs = search needs
+
+first-refusal-requires : tie.Need-first-refusal-requires
+first-refusal-requires c κs = search needs
+
+returns : tie.Need-returns
+unfolding readWith
+returns c = simp (← c .before .first-refusal .ensures, ← c .before .before .read-number .ensures, ← c .before .before .before .read-one .ensures)
+
+pub read-with-spec : {M : Type 1} → statement M
+read-with-spec =
+    tie.close (tie.spec read-one-requires read-number-requires first-refusal-requires returns)

@@ -1,0 +1,4 @@
+pub mod Line
+pub mod Reading
+pub mod Answers
+pub mod Places

@@ -1,0 +1,34 @@
+-- Line intervals over places, in document 01's words: for a line interval by itself a place is a double in reach, and the interval holds the places from
+-- lo to hi, both included. Definitions only; the laws are in proofs/Places.antt.
+use mathlib.Core.Path.{_≡_}
+use mathlib.Core.Bool.{true}
+use lib.Ieee.{Float, binary64, fits}
+use Rattle.consts.specs.Reading.{inReach}
+use Rattle.r1.specs.declared.interval.Interval.{Interval}
+use Rattle.r1.specs.Line.{holds, strictlyHolds}
+
+-- a place: a double in reach
+pub record Place (p : Float) : Type 0 where
+  pub is-double : fits binary64 p ≡ true
+  pub in-reach : inReach p ≡ true
+
+-- an interval within the limits: both ends are doubles in reach
+pub record InReach (i : Interval) : Type 0 where
+  pub lo-place : Place (i .lo)
+  pub hi-place : Place (i .hi)
+
+-- i holds each place that o holds
+abbrev pub Inside : Interval → Interval → Type 0
+Inside i o = (p : Float) → Place p → holds o p ≡ true → holds i p ≡ true
+
+-- each place that o holds lies strictly between the ends of i
+abbrev pub StrictlyInside : Interval → Interval → Type 0
+StrictlyInside i o = (p : Float) → Place p → holds o p ≡ true → strictlyHolds i p ≡ true
+
+-- some place is held by both
+abbrev pub Meets : Interval → Interval → Type 0
+Meets i o = (p : Float) × Place p × (holds i p ≡ true) × (holds o p ≡ true)
+
+-- no place is held
+abbrev pub Nothing : Interval → Type 0
+Nothing i = (p : Float) → Place p → holds i p ≡ true → ⊥

@@ -1,0 +1,7 @@
+//! One module for each layer of the port: the calls of the crate, as rows of the table, and the arms
+//! of the Rust functions, told from their own branch conditions.
+
+pub mod consts;
+pub mod consts_arms;
+pub mod r1;
+pub mod r1_arms;

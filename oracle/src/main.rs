@@ -1,0 +1,85 @@
+//! The oracle: the crate s2's own code behind the line protocol of `ask`, and the tools that compare
+//! the two. The scripts in the folder above run it; README.md there says how.
+
+mod answer;
+mod check;
+mod differences;
+mod draw;
+mod edges;
+mod layers;
+mod lines;
+mod malformed;
+mod ops;
+mod plan;
+mod question;
+mod refusals;
+mod rng;
+mod tally;
+mod vectors;
+
+use std::io::{self, Write};
+use std::process::ExitCode;
+
+const USAGE: &str = "usage: oracle answer | questions COUNT SEED | tally [--arms] QUESTIONS JUDGE OTHER
+       | vectors | edges DIR | check";
+
+fn main() -> ExitCode {
+    let words: Vec<String> = std::env::args().skip(1).collect();
+    let words: Vec<&str> = words.iter().map(String::as_str).collect();
+    match run(&words) {
+        Ok(status) => ExitCode::from(status),
+        // Whoever read the output has seen enough.
+        Err(error) if error.kind() == io::ErrorKind::BrokenPipe => ExitCode::SUCCESS,
+        Err(error) => {
+            eprintln!("oracle: {error}");
+            ExitCode::from(2)
+        }
+    }
+}
+
+fn run(words: &[&str]) -> io::Result<u8> {
+    match words {
+        ["answer"] => answer::serve(io::stdin().lock(), io::stdout().lock()).map(|_| 0),
+        ["questions", count, seed] => questions(count, seed).map(|_| 0),
+        ["tally", questions, judge, other] => tally(questions, judge, other, false),
+        ["tally", "--arms", questions, judge, other] => tally(questions, judge, other, true),
+        ["vectors"] => io::stdout().write_all(&vectors::bytes()).map(|_| 0),
+        ["edges", folder] => write_edges(folder).map(|_| 0),
+        ["check"] => Ok(u8::from(check::run() > 0)),
+        _ => Err(io::Error::other(USAGE)),
+    }
+}
+
+fn whole(word: &str) -> io::Result<u64> {
+    word.parse().map_err(|_| io::Error::other(format!("'{word}' is no whole number")))
+}
+
+fn questions(count: &str, seed: &str) -> io::Result<()> {
+    let (count, seed) = (whole(count)? as usize, whole(seed)?);
+    let mut output = io::BufWriter::with_capacity(1 << 16, io::stdout().lock());
+    let mut result = Ok(());
+    plan::questions(count, seed, &mut |line| {
+        if result.is_ok() {
+            result = output.write_all(line).and_then(|_| output.write_all(b"\n"));
+        }
+    });
+    result.and_then(|_| output.flush())
+}
+
+/// Prints the comparison. The status is 1 on a difference or where the questions fall short.
+fn tally(questions: &str, judge: &str, other: &str, arms: bool) -> io::Result<u8> {
+    let tally = tally::Tally::read(questions, judge, other)?;
+    tally.print(arms);
+    tally.print_differing();
+    let lacks = tally.shortfalls();
+    lacks.iter().for_each(|lack| println!("falls short: {lack}"));
+    println!("{} differ, {} shortfalls", tally.differing(), lacks.len());
+    Ok(u8::from(tally.differing() > 0 || !lacks.is_empty()))
+}
+
+fn write_edges(folder: &str) -> io::Result<()> {
+    for (name, bytes) in edges::inputs() {
+        std::fs::write(format!("{folder}/{name}.in"), bytes)?;
+    }
+    Ok(())
+}

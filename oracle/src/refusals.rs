@@ -1,0 +1,87 @@
+//! Document 01's refusals: when an operation refuses, and what it hands back then. This is code of
+//! our own. The crate has no refusals, and nothing here calls it.
+
+use crate::ops::{Gives, Op, Role, Value};
+
+/// Numbers of a larger size are out of reach: 2^500.
+pub const REACH: f64 = f64::from_bits(0x5F30_0000_0000_0000);
+
+/// The largest size that `remainder` takes: 4 PI.
+pub const REMAINDER_REACH: f64 = f64::from_bits(0x4029_21FB_5444_2D18);
+
+pub const ACCEPTED: u8 = 0;
+pub const OUT_OF_REACH: u8 = 1;
+pub const BAD_POINT: u8 = 3;
+pub const BAD_AMOUNT: u8 = 4;
+
+/// No NaN, and of a size that the port takes. (A comparison with a NaN is false.)
+pub fn in_reach(x: f64) -> bool {
+    x.abs() <= REACH
+}
+
+/// The largest size that a number of this role may have.
+pub fn largest(role: Role) -> f64 {
+    match role {
+        Role::Line | Role::LinePoint | Role::Amount => REACH,
+        Role::RemainderArgument => REMAINDER_REACH,
+    }
+}
+
+/// The number that this operand by itself is refused with, or 0.
+fn fault(role: Role, numbers: &[f64]) -> u8 {
+    let taken = numbers.iter().all(|x| x.abs() <= largest(role));
+    match role {
+        _ if taken => ACCEPTED,
+        Role::Line => OUT_OF_REACH,
+        Role::LinePoint => BAD_POINT,
+        Role::Amount | Role::RemainderArgument => BAD_AMOUNT,
+    }
+}
+
+/// Document 01's order: intervals and rectangles first, then points, then margins, sizes and errors.
+fn turn(role: Role) -> u8 {
+    match role {
+        Role::Line => 0,
+        Role::LinePoint => 1,
+        Role::Amount | Role::RemainderArgument => 2,
+    }
+}
+
+/// The refusal number of a question: 0 if it is accepted. Within one turn operands go left to right.
+pub fn refusal(op: &Op, numbers: &[f64]) -> u8 {
+    for now in 0..=2 {
+        for (role, own) in op.operands(numbers) {
+            let number = fault(role, own);
+            if turn(role) == now && number != ACCEPTED {
+                return number;
+            }
+        }
+    }
+    ACCEPTED
+}
+
+/// The refusal numbers that an operation can give, rising.
+pub fn possible(op: &Op) -> Vec<u8> {
+    let mut numbers: Vec<u8> = op.takes.iter().flat_map(|role| faults_of(*role)).copied().collect();
+    numbers.sort();
+    numbers.dedup();
+    numbers
+}
+
+fn faults_of(role: Role) -> &'static [u8] {
+    match role {
+        Role::Line => &[OUT_OF_REACH],
+        Role::LinePoint => &[BAD_POINT],
+        Role::Amount | Role::RemainderArgument => &[BAD_AMOUNT],
+    }
+}
+
+/// What a refused question answers beside its number. What is handed back keeps its bits.
+pub fn result(op: &Op, number: u8, numbers: &[f64]) -> Value {
+    match op.gives {
+        Gives::GrownLine if number == BAD_POINT => Value::Numbers(numbers[..2].to_vec()),
+        Gives::Line | Gives::GrownLine => Value::Numbers(vec![1.0, 0.0]),
+        Gives::Number | Gives::Distance => Value::Numbers(vec![0.0]),
+        Gives::Test => Value::Test(false),
+    }
+}

@@ -1,0 +1,225 @@
+//! Holding the answers of two doors to the same questions against each other, and counting what was
+//! asked, so that an agreement means something.
+
+use std::collections::BTreeMap;
+use std::fs::File;
+use std::io::{self, BufReader};
+
+use crate::answer::named_difference;
+use crate::lines::Lines;
+use crate::ops::{self, Gives, Op};
+use crate::plan;
+use crate::question;
+use crate::refusals;
+
+/// How many differing questions of an operation are shown.
+const SHOWN: usize = 3;
+
+/// What was counted for one operation, or for the malformed lines.
+#[derive(Default)]
+struct Row {
+    asked: usize,
+    /// by the first word of the judge's answer: a refusal number, or "?"
+    by_refusal: BTreeMap<String, usize>,
+    yes: usize,
+    no: usize,
+    named: usize,
+    differ: usize,
+    arms: BTreeMap<&'static str, usize>,
+    shown: Vec<String>,
+}
+
+impl Row {
+    fn count(&self, refusal: &str) -> usize {
+        self.by_refusal.get(refusal).copied().unwrap_or(0)
+    }
+
+    /// Counts the judge's answer, and whether the other door says the same.
+    fn add_answers(&mut self, asked: &[u8], judge: Option<&[u8]>, other: Option<&[u8]>) {
+        self.asked += 1;
+        let text = shown(judge);
+        let mut words = text.split(' ');
+        let refusal = words.next().unwrap_or("").to_string();
+        if refusal == "0" {
+            match words.next() {
+                Some("1") => self.yes += 1,
+                Some("0") => self.no += 1,
+                _ => {}
+            }
+        }
+        *self.by_refusal.entry(refusal).or_default() += 1;
+        if judge != other || judge.is_none() {
+            self.differ += 1;
+            if self.shown.len() < SHOWN {
+                let asked = shown(Some(asked));
+                self.shown.push(format!("  {asked}\n    judge: {text}\n    other: {}", shown(other)));
+            }
+        }
+    }
+
+    /// Counts what an accepted question reaches in the crate.
+    fn add_reached(&mut self, op: &Op, numbers: &[f64]) {
+        for arm in plan::arms_reached(op, numbers) {
+            *self.arms.entry(arm).or_default() += 1;
+        }
+        self.named += usize::from(named_difference(op, numbers));
+    }
+}
+
+/// A line for the eye: printable, and not too long.
+fn shown(line: Option<&[u8]>) -> String {
+    match line {
+        None => "(no line)".to_string(),
+        Some(line) => line.iter().take(300).flat_map(|byte| byte.escape_ascii()).map(char::from).collect(),
+    }
+}
+
+/// The counts of a whole run: a row for each operation, in port order, and one for malformed lines.
+pub struct Tally {
+    rows: Vec<(&'static str, Option<&'static Op>, Row)>,
+    extra_lines: usize,
+}
+
+const MALFORMED: &str = "(malformed)";
+
+/// A file's lines. The longest line that a door may answer is far below this bound.
+fn open(path: &str) -> io::Result<Lines<BufReader<File>>> {
+    Ok(Lines::new(BufReader::with_capacity(1 << 16, File::open(path)?), 1 << 20))
+}
+
+impl Tally {
+    fn new() -> Self {
+        let named = ops::all().map(|op| (op.name, Some(op), Row::default()));
+        let rows = named.chain([(MALFORMED, None, Row::default())]).collect();
+        Tally { rows, extra_lines: 0 }
+    }
+
+    /// Reads the questions and both doors' answers, line by line.
+    pub fn read(questions: &str, judge: &str, other: &str) -> io::Result<Tally> {
+        let mut tally = Tally::new();
+        let (mut questions, mut judge, mut other) = (open(questions)?, open(judge)?, open(other)?);
+        while let Some(asked) = questions.next()? {
+            tally.add(asked, judge.next()?, other.next()?);
+        }
+        for door in [&mut judge, &mut other] {
+            while door.next()?.is_some() {
+                tally.extra_lines += 1;
+            }
+        }
+        Ok(tally)
+    }
+
+    fn add(&mut self, asked: &[u8], judge: Option<&[u8]>, other: Option<&[u8]>) {
+        let read = question::read(asked);
+        let name = read.as_ref().map_or(MALFORMED, |question| question.op.name);
+        let at = self.rows.iter().position(|row| row.0 == name).expect("every operation has a row");
+        let row = &mut self.rows[at].2;
+        row.add_answers(asked, judge, other);
+        if let Some(question) = read {
+            if refusals::refusal(question.op, &question.numbers) == refusals::ACCEPTED {
+                row.add_reached(question.op, &question.numbers);
+            }
+        }
+    }
+
+    /// The first words of answers that occur and are neither "0" nor "?".
+    fn refusals_seen(&self) -> Vec<String> {
+        let mut seen: Vec<String> =
+            self.rows.iter().flat_map(|row| row.2.by_refusal.keys().cloned()).collect();
+        seen.sort();
+        seen.dedup();
+        seen.retain(|number| number != "0" && number != "?");
+        seen
+    }
+
+    /// The table, a line an operation.
+    pub fn print(&self, arms: bool) {
+        let seen = self.refusals_seen();
+        let titles: String = seen.iter().map(|number| format!("{:>9}", format!("ref. {number}"))).collect();
+        println!(
+            "{:<30}{:>8}{:>10}{titles}{:>8}{:>8}{:>8}{:>8}",
+            "operation", "asked", "accepted", "yes", "no", "named", "differ"
+        );
+        for (name, op, row) in &self.rows {
+            print_row(name, *op, row, &seen);
+            if arms {
+                row.arms.iter().for_each(|(arm, times)| println!("    {times:>8}  {arm}"));
+            }
+        }
+    }
+
+    /// The first differing questions with both answers.
+    pub fn print_differing(&self) {
+        for (name, _, row) in self.rows.iter().filter(|row| row.2.differ > 0) {
+            println!("{name}: {} differ; the first:", row.differ);
+            row.shown.iter().for_each(|text| println!("{text}"));
+        }
+        if self.extra_lines > 0 {
+            println!("a door wrote {} lines after its last answer", self.extra_lines);
+        }
+    }
+
+    pub fn differing(&self) -> usize {
+        self.rows.iter().map(|row| row.2.differ).sum::<usize>() + self.extra_lines
+    }
+
+    /// What the questions lack, one line each.
+    pub fn shortfalls(&self) -> Vec<String> {
+        let named = |name: &str, lack: String| format!("{name}: {lack}");
+        self.rows
+            .iter()
+            .flat_map(|(name, op, row)| lacks(*op, row).into_iter().map(move |lack| named(name, lack)))
+            .collect()
+    }
+}
+
+fn print_row(name: &str, op: Option<&Op>, row: &Row, seen: &[String]) {
+    let Some(op) = op else {
+        let (asked, no_question, differ) = (row.asked, row.count("?"), row.differ);
+        println!("{name}: asked {asked}, answered ? {no_question}, differ {differ}");
+        return;
+    };
+    let refused: String = seen.iter().map(|number| format!("{:>9}", row.count(number))).collect();
+    let test = |count: usize| match op.gives {
+        Gives::Test => count.to_string(),
+        _ => "-".to_string(),
+    };
+    println!(
+        "{name:<30}{:>8}{:>10}{refused}{:>8}{:>8}{:>8}{:>8}",
+        row.asked,
+        row.count("0"),
+        test(row.yes),
+        test(row.no),
+        row.named,
+        row.differ
+    );
+}
+
+/// What the questions of one operation lack: too few accepted, a refusal, an arm, yes or no.
+fn lacks(op: Option<&Op>, row: &Row) -> Vec<String> {
+    let mut lacks = Vec::new();
+    let mut need = |what: String, have: usize, least: usize| {
+        if have < least.max(1) {
+            lacks.push(format!("{what}: {have}, at least {} wanted", least.max(1)));
+        }
+    };
+    let Some(op) = op else {
+        need("answered ?".to_string(), row.count("?"), row.asked);
+        return lacks;
+    };
+    let accepted = row.count("0");
+    need("accepted".to_string(), accepted, (row.asked * 60).div_ceil(100));
+    for number in refusals::possible(op) {
+        need(format!("refused with {number}"), row.count(&number.to_string()), row.asked / 200);
+    }
+    for arm in plan::arms(op) {
+        need(format!("arm '{arm}'"), row.arms.get(arm).copied().unwrap_or(0), row.asked / 200);
+    }
+    if op.gives == Gives::Test {
+        need("yes".to_string(), row.yes, accepted.div_ceil(10));
+        need("no".to_string(), row.no, accepted.div_ceil(10));
+    }
+    let unlisted = row.arms.keys().filter(|arm| !plan::arms(op).contains(arm));
+    lacks.extend(unlisted.map(|arm| format!("arm '{arm}' is not in the list of arms")));
+    lacks
+}
