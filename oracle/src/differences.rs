@@ -3,8 +3,8 @@
 
 use crate::ops::{Op, Value};
 
-/// The port's answer where document 01 sets the crate's aside. The line interval and the remainder
-/// have no such place, so there is no arm yet.
+/// The port's answer where document 01 sets the crate's aside. The remainder, the line interval and the
+/// circle interval have no such place, so there is no arm yet.
 pub fn instead(op: &Op, _numbers: &[f64]) -> Option<Value> {
     match op.name {
         _ => None,

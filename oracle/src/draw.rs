@@ -1,6 +1,10 @@
 //! Drawing the numbers of a question: mostly edge values and their neighbours, and numbers that stand
 //! in a relation to the earlier ones of the same question, so that ties and near misses are common.
 
+pub mod circle;
+
+use std::f64::consts::PI;
+
 use crate::layers::consts::TWO_PI;
 use crate::ops::{Op, Role};
 use crate::refusals::{largest, REACH, REMAINDER_REACH};
@@ -46,18 +50,20 @@ pub const OUTSIDE: &[u64] = &[
 /// Multiples of PI/4 up to 4 PI lie around every place where `remainder` changes its mind.
 const QUARTER_TURN: f64 = TWO_PI / 8.0;
 
-/// The numbers of a question. `clean`: every number is one that its role takes.
+/// The numbers of a question. `clean`: every operand is one that its role takes.
 pub fn numbers(rng: &mut Rng, op: &Op, clean: bool) -> Vec<f64> {
+    let on_circle = op.takes.contains(&Role::Circle);
     let mut drawn: Vec<f64> = Vec::with_capacity(op.width());
     for role in op.takes {
-        let start = drawn.len();
-        for _ in 0..role.width() {
-            let x = related_or_fresh(rng, *role, &drawn);
-            drawn.push(x);
-        }
-        // Two free numbers make an empty interval half of the time: too often.
-        if *role == Role::Line && drawn[start] > drawn[start + 1] && rng.percent(65) {
-            drawn.swap(start, start + 1);
+        match role {
+            Role::Line => line(rng, &mut drawn),
+            Role::Circle => drawn.extend(circle::interval(rng, &drawn)),
+            Role::CircleEnds => drawn.extend(circle::ends(rng)),
+            Role::CirclePoint => drawn.push(circle::point(rng, &drawn)),
+            Role::Amount if on_circle => drawn.push(circle::amount(rng, &drawn)),
+            Role::LinePoint | Role::Amount | Role::RemainderArgument => {
+                drawn.push(related_or_fresh(rng, *role, &drawn))
+            }
         }
     }
     if !clean && !drawn.is_empty() {
@@ -66,8 +72,21 @@ pub fn numbers(rng: &mut Rng, op: &Op, clean: bool) -> Vec<f64> {
     drawn
 }
 
-/// Puts one number out of its role's reach, and each other one now and then. Others become -0, since
-/// what a refusal hands back must keep its bits.
+/// Adds a line interval.
+fn line(rng: &mut Rng, drawn: &mut Vec<f64>) {
+    let lo = related_or_fresh(rng, Role::Line, drawn);
+    drawn.push(lo);
+    let hi = related_or_fresh(rng, Role::Line, drawn);
+    drawn.push(hi);
+    // Two free numbers make an empty interval half of the time: too often.
+    if lo > hi && rng.percent(65) {
+        let end = drawn.len();
+        drawn.swap(end - 2, end - 1);
+    }
+}
+
+/// Makes one number one that its role does not take, and each other one now and then. Others become
+/// -0, since what a refusal hands back must keep its bits.
 fn spoil(rng: &mut Rng, op: &Op, drawn: &mut [f64]) {
     let roles: Vec<Role> = op.takes.iter().flat_map(|role| vec![*role; role.width()]).collect();
     let sure = rng.below(drawn.len());
@@ -136,13 +155,16 @@ fn fresh(rng: &mut Rng, role: Role) -> f64 {
             let x = rng.unit() * REMAINDER_REACH;
             signed(rng, x)
         }
-        _ if rng.percent(60) => {
-            let edge = f64::from_bits(rng.pick(EDGES));
-            let x = signed(rng, edge);
-            near(rng, x)
-        }
+        _ if rng.percent(60) => edge(rng),
         _ => scaled(rng),
     }
+}
+
+/// An edge value or a neighbour of one, of either sign.
+fn edge(rng: &mut Rng) -> f64 {
+    let edge = f64::from_bits(rng.pick(EDGES));
+    let x = signed(rng, edge);
+    near(rng, x)
 }
 
 /// The number itself, mostly, or a neighbour.
@@ -166,11 +188,18 @@ fn scaled(rng: &mut Rng) -> f64 {
     signed(rng, x)
 }
 
-/// A number that the role does not take.
+/// A number that the role does not take, or does not take in most places (-PI in a circle interval).
 fn outside(rng: &mut Rng, role: Role) -> f64 {
-    if role == Role::RemainderArgument && rng.percent(50) {
-        let x = rng.pick(&[REMAINDER_REACH.next_up(), REMAINDER_REACH * 1.25, 13.0, 1e9, REACH]);
-        return signed(rng, x);
+    match role {
+        Role::RemainderArgument if rng.percent(50) => {
+            let x = rng.pick(&[REMAINDER_REACH.next_up(), REMAINDER_REACH * 1.25, 13.0, 1e9, REACH]);
+            signed(rng, x)
+        }
+        Role::Circle if rng.percent(25) => -PI,
+        Role::Circle | Role::CircleEnds | Role::CirclePoint if rng.percent(50) => {
+            let x = rng.pick(&[PI.next_up(), PI.next_up(), 3.5, 4.0, TWO_PI, 1e9, REACH]);
+            signed(rng, x)
+        }
+        _ => f64::from_bits(rng.pick(OUTSIDE)),
     }
-    f64::from_bits(rng.pick(OUTSIDE))
 }

@@ -11,6 +11,12 @@ pub enum Role {
     Line,
     /// a point on the line
     LinePoint,
+    /// a circle interval: lo, hi
+    Circle,
+    /// the two ends that circle `new` takes: -PI may stand for PI
+    CircleEnds,
+    /// a point on the circle
+    CirclePoint,
     /// a margin, a size or an error
     Amount,
     /// the argument of `remainder`
@@ -21,8 +27,8 @@ impl Role {
     /// How many numbers the operand is written with.
     pub fn width(self) -> usize {
         match self {
-            Role::Line => 2,
-            Role::LinePoint | Role::Amount | Role::RemainderArgument => 1,
+            Role::Line | Role::Circle | Role::CircleEnds => 2,
+            Role::LinePoint | Role::CirclePoint | Role::Amount | Role::RemainderArgument => 1,
         }
     }
 }
@@ -34,10 +40,16 @@ pub enum Gives {
     Line,
     /// a line interval made by growth: a bad point hands the first operand back
     GrownLine,
+    /// a circle interval
+    Circle,
+    /// a circle interval made by growth: a bad point hands the first operand back
+    GrownCircle,
     /// one number
     Number,
     /// yes or no
     Test,
+    /// a test of validity: what is not valid is refused, so an accepted answer is always yes
+    Validity,
     /// a distance, or Unbounded
     Distance,
 }
@@ -104,7 +116,7 @@ pub const fn straight(
 }
 
 /// All layers, in port order. A later layer adds its table here.
-const LAYERS: &[&[Op]] = &[layers::consts::OPS, layers::r1::OPS];
+const LAYERS: &[&[Op]] = &[layers::consts::OPS, layers::r1::OPS, layers::s1::OPS];
 
 /// All operations, in port order.
 pub fn all() -> impl Iterator<Item = &'static Op> {

@@ -1,6 +1,8 @@
 //! Document 01's refusals: when an operation refuses, and what it hands back then. This is code of
 //! our own. The crate has no refusals, and nothing here calls it.
 
+use std::f64::consts::PI;
+
 use crate::ops::{Gives, Op, Role, Value};
 
 /// Numbers of a larger size are out of reach: 2^500.
@@ -9,8 +11,12 @@ pub const REACH: f64 = f64::from_bits(0x5F30_0000_0000_0000);
 /// The largest size that `remainder` takes: 4 PI.
 pub const REMAINDER_REACH: f64 = f64::from_bits(0x4029_21FB_5444_2D18);
 
+/// Rust's PI is the double that document 01 calls PI.
+const _: () = assert!(PI.to_bits() == 0x4009_21FB_5444_2D18);
+
 pub const ACCEPTED: u8 = 0;
 pub const OUT_OF_REACH: u8 = 1;
+pub const NOT_VALID: u8 = 2;
 pub const BAD_POINT: u8 = 3;
 pub const BAD_AMOUNT: u8 = 4;
 
@@ -23,26 +29,36 @@ pub fn in_reach(x: f64) -> bool {
 pub fn largest(role: Role) -> f64 {
     match role {
         Role::Line | Role::LinePoint | Role::Amount => REACH,
+        Role::Circle | Role::CircleEnds | Role::CirclePoint => PI,
         Role::RemainderArgument => REMAINDER_REACH,
     }
 }
 
+/// Both ends of size at most PI; lo is -PI only in FULL, hi is -PI only in EMPTY.
+pub fn circle_is_valid(lo: f64, hi: f64) -> bool {
+    let seam_is_pi = (lo != -PI || hi == PI) && (hi != -PI || lo == PI);
+    lo.abs() <= PI && hi.abs() <= PI && seam_is_pi
+}
+
 /// The number that this operand by itself is refused with, or 0.
 fn fault(role: Role, numbers: &[f64]) -> u8 {
-    let taken = numbers.iter().all(|x| x.abs() <= largest(role));
+    let all_in_reach = numbers.iter().all(|x| in_reach(*x));
+    let all_small = numbers.iter().all(|x| x.abs() <= largest(role));
     match role {
-        _ if taken => ACCEPTED,
-        Role::Line => OUT_OF_REACH,
-        Role::LinePoint => BAD_POINT,
-        Role::Amount | Role::RemainderArgument => BAD_AMOUNT,
+        Role::Line | Role::Circle | Role::CircleEnds if !all_in_reach => OUT_OF_REACH,
+        Role::Circle if !circle_is_valid(numbers[0], numbers[1]) => NOT_VALID,
+        Role::CircleEnds if !all_small => NOT_VALID,
+        Role::LinePoint | Role::CirclePoint if !all_small => BAD_POINT,
+        Role::Amount | Role::RemainderArgument if !all_small => BAD_AMOUNT,
+        _ => ACCEPTED,
     }
 }
 
 /// Document 01's order: intervals and rectangles first, then points, then margins, sizes and errors.
 fn turn(role: Role) -> u8 {
     match role {
-        Role::Line => 0,
-        Role::LinePoint => 1,
+        Role::Line | Role::Circle | Role::CircleEnds => 0,
+        Role::LinePoint | Role::CirclePoint => 1,
         Role::Amount | Role::RemainderArgument => 2,
     }
 }
@@ -71,7 +87,8 @@ pub fn possible(op: &Op) -> Vec<u8> {
 fn faults_of(role: Role) -> &'static [u8] {
     match role {
         Role::Line => &[OUT_OF_REACH],
-        Role::LinePoint => &[BAD_POINT],
+        Role::Circle | Role::CircleEnds => &[OUT_OF_REACH, NOT_VALID],
+        Role::LinePoint | Role::CirclePoint => &[BAD_POINT],
         Role::Amount | Role::RemainderArgument => &[BAD_AMOUNT],
     }
 }
@@ -79,9 +96,10 @@ fn faults_of(role: Role) -> &'static [u8] {
 /// What a refused question answers beside its number. What is handed back keeps its bits.
 pub fn result(op: &Op, number: u8, numbers: &[f64]) -> Value {
     match op.gives {
-        Gives::GrownLine if number == BAD_POINT => Value::Numbers(numbers[..2].to_vec()),
+        Gives::GrownLine | Gives::GrownCircle if number == BAD_POINT => Value::Numbers(numbers[..2].to_vec()),
         Gives::Line | Gives::GrownLine => Value::Numbers(vec![1.0, 0.0]),
+        Gives::Circle | Gives::GrownCircle => Value::Numbers(vec![PI, -PI]),
         Gives::Number | Gives::Distance => Value::Numbers(vec![0.0]),
-        Gives::Test => Value::Test(false),
+        Gives::Test | Gives::Validity => Value::Test(false),
     }
 }

@@ -181,7 +181,7 @@ fn print_row(name: &str, op: Option<&Op>, row: &Row, seen: &[String]) {
     };
     let refused: String = seen.iter().map(|number| format!("{:>9}", row.count(number))).collect();
     let test = |count: usize| match op.gives {
-        Gives::Test => count.to_string(),
+        Gives::Test | Gives::Validity => count.to_string(),
         _ => "-".to_string(),
     };
     println!(

@@ -1,6 +1,7 @@
 //! The stored questions of the program `ask`: for each operation boundary values in every place,
 //! every refusal and every arm several times, random questions, and malformed lines of every kind.
 
+use crate::draw::circle::KNOWN;
 use crate::draw::{EDGES, OUTSIDE};
 use crate::malformed;
 use crate::ops::{self, Op, Role};
@@ -38,6 +39,7 @@ pub fn bytes() -> Vec<u8> {
 
 fn good(rng: &mut Rng, op: &'static Op) -> Vec<Vec<u8>> {
     let mut asked = boundaries(op);
+    asked.extend(known_intervals(op));
     for number in refusals::possible(op) {
         asked.extend((0..4).map(|_| plan::aimed(rng, op, Aim::Refusal(number))));
     }
@@ -52,16 +54,20 @@ fn good(rng: &mut Rng, op: &'static Op) -> Vec<Vec<u8>> {
 /// An operand with nothing special about it. Two intervals meet, and both hold a point of 0.5.
 fn plain(role: Role, first: bool) -> &'static [f64] {
     match role {
-        Role::Line if first => &[0.0, 1.0],
-        Role::Line => &[0.5, 2.0],
-        Role::LinePoint | Role::Amount | Role::RemainderArgument => &[0.5],
+        Role::Line | Role::Circle | Role::CircleEnds if first => &[0.0, 1.0],
+        Role::Line | Role::Circle | Role::CircleEnds => &[0.5, 2.0],
+        Role::LinePoint | Role::CirclePoint | Role::Amount | Role::RemainderArgument => &[0.5],
     }
+}
+
+/// A question with nothing special about it.
+fn plain_question(op: &Op) -> Vec<f64> {
+    op.takes.iter().enumerate().flat_map(|(at, role)| plain(*role, at == 0)).copied().collect()
 }
 
 /// Each boundary value in one place of a plain question, the places in turn.
 fn boundaries(op: &Op) -> Vec<Vec<f64>> {
-    let plain: Vec<f64> =
-        op.takes.iter().enumerate().flat_map(|(at, role)| plain(*role, at == 0)).copied().collect();
+    let plain = plain_question(op);
     if plain.is_empty() {
         return Vec::new();
     }
@@ -77,6 +83,34 @@ fn boundaries(op: &Op) -> Vec<Vec<f64>> {
             numbers
         })
         .collect()
+}
+
+/// Each circle interval with something special about it in a plain question, the operands in turn.
+fn known_intervals(op: &Op) -> Vec<Vec<f64>> {
+    let plain = plain_question(op);
+    let starts = circle_starts(op);
+    let known = KNOWN.iter().enumerate().filter(|_| !starts.is_empty());
+    known
+        .map(|(at, ends)| {
+            let (mut numbers, start) = (plain.clone(), starts[at % starts.len()]);
+            numbers[start..start + 2].copy_from_slice(&ends.map(f64::from_bits));
+            numbers
+        })
+        .collect()
+}
+
+/// Where the ends of circle intervals stand among the numbers of a question.
+fn circle_starts(op: &Op) -> Vec<usize> {
+    let mut starts = Vec::new();
+    let mut at = 0;
+    for role in op.takes {
+        match role {
+            Role::Circle | Role::CircleEnds => starts.push(at),
+            _ => {}
+        }
+        at += role.width();
+    }
+    starts
 }
 
 /// One malformed line of each kind. NUL and other control bytes are tried by `oracle/edges`, so that

@@ -1,4 +1,5 @@
-// The questions `r1.`: what each operation on line intervals is asked with, and what it answers.
+// The questions `r1.`, but for `r1.to_s1` (circle.rt): what each operation on line intervals is asked
+// with, and what it answers.
 use crate::parse::Numbers;
 use crate::parse::asks;
 use crate::reply::Reply;
@@ -10,36 +11,37 @@ use r1::interval::Answer;
 use r1::interval::Distance;
 use r1::interval::Hausdorff;
 use r1::interval::Interval;
-ghost use Prim.Native.Nat.{_+_, _<_};
 
-// The answer to a question of this layer.
+// The answer to a question of this layer. Operands come as they are asked with, unread: two intervals
+// a and b, or in the place of b a number p.
 pub fn reply(name: &[u8], count: usize, x: Numbers) -> Reply {
-    let choices = either(made(name, count, x), changed(name, count, x));
-    let tests = either(tested(name, count, x), compared(name, count, x));
-    either(either(choices, tests), measured(name, count, x))
+    let p = x[2];
+    let a = Interval { lo: x[0], hi: x[1] };
+    let b = Interval { lo: p, hi: x[3] };
+    let intervals = either(made(name, count, a.lo, a.hi), changed(name, count, a, b, p));
+    let tests = either(tested(name, count, a, p), compared(name, count, a, b, x[4]));
+    either(either(intervals, tests), measured(name, count, a, b, p))
 }
 
 // Intervals of numbers.
-fn made(name: &[u8], count: usize, x: Numbers) -> Reply {
+fn made(name: &[u8], count: usize, x: f64, y: f64) -> Reply {
     if asks(name, count, b"r1.empty", 0) {
         return standard(Interval::EMPTY);
     }
     if asks(name, count, b"r1.new", 2) {
-        return interval(Interval::new(x[0], x[1]));
+        return interval(Interval::new(x, y));
     }
     if asks(name, count, b"r1.from_point", 1) {
-        return interval(Interval::from_point(x[0]));
+        return interval(Interval::from_point(x));
     }
     if asks(name, count, b"r1.from_point_pair", 2) {
-        return interval(Interval::from_point_pair(x[0], x[1]));
+        return interval(Interval::from_point_pair(x, y));
     }
     Reply::Unknown
 }
 
 // Intervals of intervals.
-fn changed(name: &[u8], count: usize, x: Numbers) -> Reply {
-    let a = operand(x, 0);
-    let b = operand(x, 2);
+fn changed(name: &[u8], count: usize, a: Interval, b: Interval, p: f64) -> Reply {
     if asks(name, count, b"r1.intersection", 4) {
         return interval(a.intersection(b));
     }
@@ -47,17 +49,16 @@ fn changed(name: &[u8], count: usize, x: Numbers) -> Reply {
         return interval(a.union(b));
     }
     if asks(name, count, b"r1.expanded", 3) {
-        return interval(a.expanded(x[2]));
+        return interval(a.expanded(p));
     }
     if asks(name, count, b"r1.add", 3) {
-        return interval(a.add(x[2]));
+        return interval(a.add(p));
     }
     Reply::Unknown
 }
 
 // Numbers and distances.
-fn measured(name: &[u8], count: usize, x: Numbers) -> Reply {
-    let a = operand(x, 0);
+fn measured(name: &[u8], count: usize, a: Interval, b: Interval, p: f64) -> Reply {
     if asks(name, count, b"r1.center", 2) {
         return number(a.center());
     }
@@ -65,33 +66,30 @@ fn measured(name: &[u8], count: usize, x: Numbers) -> Reply {
         return number(a.len());
     }
     if asks(name, count, b"r1.clamp_point", 3) {
-        return number(a.clamp_point(x[2]));
+        return number(a.clamp_point(p));
     }
     if asks(name, count, b"r1.hausdorff", 4) {
-        return distance(a.directed_hausdorff_distance(operand(x, 2)));
+        return distance(a.directed_hausdorff_distance(b));
     }
     Reply::Unknown
 }
 
 // Tests of one interval, and of an interval and a point.
-fn tested(name: &[u8], count: usize, x: Numbers) -> Reply {
-    let a = operand(x, 0);
+fn tested(name: &[u8], count: usize, a: Interval, p: f64) -> Reply {
     if asks(name, count, b"r1.is_empty", 2) {
         return test(a.is_empty());
     }
     if asks(name, count, b"r1.contains", 3) {
-        return test(a.contains(x[2]));
+        return test(a.contains(p));
     }
     if asks(name, count, b"r1.interior_contains", 3) {
-        return test(a.interior_contains(x[2]));
+        return test(a.interior_contains(p));
     }
     Reply::Unknown
 }
 
 // Tests of two intervals.
-fn compared(name: &[u8], count: usize, x: Numbers) -> Reply {
-    let a = operand(x, 0);
-    let b = operand(x, 2);
+fn compared(name: &[u8], count: usize, a: Interval, b: Interval, max_error: f64) -> Reply {
     if asks(name, count, b"r1.contains_interval", 4) {
         return test(a.contains_interval(b));
     }
@@ -111,19 +109,9 @@ fn compared(name: &[u8], count: usize, x: Numbers) -> Reply {
         return test(a.approx_eq(b));
     }
     if asks(name, count, b"r1.approx_eq_by", 5) {
-        return test(a.approx_eq_by(b, x[4]));
+        return test(a.approx_eq_by(b, max_error));
     }
     Reply::Unknown
-}
-
-// The interval whose ends are the numbers at a place and after it, as they came.
-fn operand(x: Numbers, at: usize) -> Interval
-    requires { ⌜ at + 1 < 10 ⌝ }
-{
-    Interval {
-        lo: x[at],
-        hi: x[at + 1],
-    }
 }
 
 fn standard(i: Interval) -> Reply {

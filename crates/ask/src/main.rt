@@ -2,8 +2,9 @@
 // order. A question is an operation's name and the bit patterns of its operands, an answer the refusal
 // number and the result; a line that is no question is answered `?`.
 //
-// This file has the stream of lines. parse.rt reads a line, a file for each layer (line.rt) has that
-// layer's questions, and print.rt writes an answer (reply.rt) as text.
+// This file has the stream of lines. parse.rt reads a line, a file for each layer (line.rt, circle.rt)
+// has that layer's questions, and print.rt writes an answer (reply.rt) as text.
+mod circle;
 mod line;
 mod parse;
 mod print;
@@ -149,5 +150,5 @@ fn answer(s: &[u8]) -> Reply {
     if asks(name, count, b"remainder", 1) {
         return reply::number(consts::remainder(x[0]));
     }
-    line::reply(name, count, x)
+    reply::either(line::reply(name, count, x), circle::reply(name, count, x))
 }

@@ -2,10 +2,11 @@
 use mathlib.Core.Path.{_≡_, refl, sym, ap, _∙_}
 use mathlib.Core.Bool.{Bool, true, false, not}
 use Prim.Native.Nat.{ℕ, zero, suc, _+_, _-_, _*_, _≤_, _<_}
-use native.Mathlib.Nat.{mul-comm, mul-sub, add-mul}
+use native.Mathlib.Nat.{add-mul}
 use native.Mathlib.Omega.{arith}
 use lib.Dec.{T, ltb, ltb→lt, nltb→le}
 use lib.IntN.{ℤ, pos, negℤ, natAbs, _+ℤ_, _-ℤ_, negℤ-+ℤ, negℤ-negℤ, +ℤ-negℤ-cancel, +ℤ-comm}
+use Rattle.order.proofs.Units.{sub-mul}
 use Rattle.consts.specs.Remainder.{signed}
 
 -- ---- natural numbers
@@ -20,9 +21,6 @@ by-order a b {A} f g = go (ltb a b) (ltb→lt a b) (nltb→le a b)
 -- how far apart two numbers are
 abbrev pub apart : ℕ → ℕ → ℕ
 apart a b = a - b + (b - a)
-
-pub sub-mul : (a b k : ℕ) → (a - b) * k ≡ a * k - b * k
-sub-mul a b k = mul-comm (a - b) k ∙ mul-sub k a b ∙ ap (λ (z : ℕ). z - k * b) (mul-comm k a) ∙ ap (λ (z : ℕ). a * k - z) (mul-comm k b)
 
 pub apart-mul : (a b k : ℕ) → apart (a * k) (b * k) ≡ apart a b * k
 apart-mul a b k = sym (add-mul (a - b) (b - a) k ∙ (λ i. sub-mul a b k i + sub-mul b a k i))

@@ -17,6 +17,8 @@ use lib.Ieee.Fits.{down-pos, round-fits, and-l, and-r}
 use lib.Ieee.Scale.{finite}
 use borrow.Author.Tests.{eqb-true, eq-eqb}
 use Rattle.order.proofs.Keys.{scaled, low-enough, below-big, eq-key, zero-key}
+use Rattle.order.proofs.Ranks.{and-of}
+use Rattle.order.proofs.Monotone.{real-num}
 use Rattle.order.specs.Key.{mag, big, key, K, Num, isZero}
 use Rattle.consts.proofs.Readings.{plain-num, plain-key, plain-plain, plain-same}
 use Rattle.consts.proofs.Differences.{by-order, apart, apart-mul, abs-signed}
@@ -72,8 +74,11 @@ own-size s m (negsuc k) f = record { q = m; j = low binary64 - suc k; small = di
 
 -- The distance of a size a from a multiple of a size b is again a size, if it is at most a and at most b.
 -- Both are multiples of the smaller of their powers of two, and so is the distance; and the one of that power is less than 2 ^ 53 of these.
+pub as-multiple : (q a b : ℕ) → b ≤ a → q * 2 ^ a ≡ q * 2 ^ (a - b) * 2 ^ b
+as-multiple q a b h = ap (λ (i : ℕ). q * 2 ^ i) (sym (back a b h)) ∙ ap (λ (z : ℕ). q * z) (pow-add 2 (a - b) b) ∙ sym (mul-assoc q (2 ^ (a - b)) (2 ^ b))
+
 in-powers : (n j : ℕ) (h : Size n) → j ≤ h .j → n ≡ h .q * 2 ^ (h .j - j) * 2 ^ j
-in-powers n j h l = h .is ∙ ap (λ (i : ℕ). h .q * 2 ^ i) (sym (back (h .j) j l)) ∙ ap (λ (z : ℕ). h .q * z) (pow-add 2 (h .j - j) j) ∙ sym (mul-assoc (h .q) (2 ^ (h .j - j)) (2 ^ j))
+in-powers n j h l = h .is ∙ as-multiple (h .q) (h .j) j l
 
 module _ (a b n : ℕ) (sa : Size a) (sb : Size b) (la : apart a (n * b) ≤ a) (lb : apart a (n * b) ≤ b) where
   abbrev r : ℕ
@@ -97,9 +102,7 @@ unfolding isNan
 num-of s m e f = and-true (fits binary64 (fin s m e)) ∙ is-true (fits binary64 (fin s m e)) f
 
 pub finite-num : (x : Float) → fits binary64 x ≡ true → finite x ≡ true → Num x ≡ true
-finite-num nan f h = absurd (false≢true h)
-finite-num (inf s) f h = absurd (false≢true h)
-finite-num (fin s m e) f h = num-of s m e (ok (fits binary64 (fin s m e)) f)
+finite-num x f h = real-num x (and-of f h)
 
 abbrev place : ℤ → ℕ
 place (pos n) = big binary64 + n

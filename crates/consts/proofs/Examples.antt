@@ -1,7 +1,7 @@
 -- Worked examples of the remainder, by computing. Assumes nothing.
 use mathlib.Core.Path.{_≡_, refl}
 use lib.Ieee.{binary64, ofBits, nan, lt, le, eq}
-use Rattle.consts.specs.Constants.{PI, NEG-PI, TURN, THREE-PI, NEG-THREE-PI, FOUR-PI}
+use Rattle.consts.specs.Constants.{PI, NEG-PI, TURN, NEG-TURN, THREE-PI, NEG-THREE-PI, FOUR-PI}
 use Rattle.consts.specs.Answer.{ZERO, zeroUnder}
 use Rattle.consts.specs.Refusal.{number, badMargin}
 use Rattle.consts.specs.Remainder.{remainderOf, within, remainderAnswer}
@@ -16,7 +16,7 @@ unfolding remainderOf ofBits
 three-halves = (refl, refl)
 
 -- whole turns leave zero, and a negative number no negative zero
-pub whole-turns : (remainderOf TURN ≡ ZERO) × (remainderOf (ofBits binary64 0xC01921FB54442D18) ≡ ZERO) × (remainderOf FOUR-PI ≡ ZERO)
+pub whole-turns : (remainderOf TURN ≡ ZERO) × (remainderOf NEG-TURN ≡ ZERO) × (remainderOf FOUR-PI ≡ ZERO)
 unfolding remainderOf ofBits
 whole-turns = (refl, refl, refl)
 

@@ -32,7 +32,7 @@ inf-out true = refl
 inf-out false = refl
 
 -- ---- zero read
-num-zero : Num ZERO ≡ true
+pub num-zero : Num ZERO ≡ true
 unfolding fits isNan ofBits
 num-zero = refl
 
@@ -86,6 +86,12 @@ module _ (x y : Float) (n : Num x ≡ true) (m : Num y ≡ true) where
 
   pub lt-plain : lt x (plain y) ≡ lt x y
   lt-plain = lt-key binary64 x (plain y) n (plain-num y m) ∙ rw (plain-key y m) (sym (lt-key binary64 x y n m))
+
+  pub plain-eq : eq (plain x) y ≡ eq x y
+  plain-eq = eq-key binary64 (plain x) y (plain-num x n) m ∙ rw (plain-key x n) (sym (eq-key binary64 x y n m))
+
+  pub eq-plain : eq x (plain y) ≡ eq x y
+  eq-plain = eq-key binary64 x (plain y) n (plain-num y m) ∙ rw (plain-key y m) (sym (eq-key binary64 x y n m))
 
 -- once is enough
 pub plain-plain : (x : Float) → plain (plain x) ≡ plain x

@@ -1,5 +1,5 @@
 -- The doubles that src/consts.rt names, by their bits: PI and its multiples, of which 2 PI, 3 PI and 4 PI are exact multiples of the double PI.
--- Definitions only.
+-- And plain numbers that more than one layer works with. Definitions only.
 use lib.Ieee.{Float, binary64, ofBits}
 
 abbrev pub PI : Float
@@ -11,6 +11,9 @@ NEG-PI = ofBits binary64 0xC00921FB54442D18
 -- 2 PI
 abbrev pub TURN : Float
 TURN = ofBits binary64 0x401921FB54442D18
+
+abbrev pub NEG-TURN : Float
+NEG-TURN = ofBits binary64 0xC01921FB54442D18
 
 abbrev pub THREE-PI : Float
 THREE-PI = ofBits binary64 0x4022D97C7F3321D2
@@ -30,3 +33,12 @@ EPSILON = ofBits binary64 0x3D06849B86A12B9B
 
 abbrev pub DBL-EPSILON : Float
 DBL-EPSILON = ofBits binary64 0x3CB0000000000000
+
+abbrev pub NEG-ONE : Float
+NEG-ONE = ofBits binary64 0xBFF0000000000000
+
+abbrev pub TWO : Float
+TWO = ofBits binary64 0x4000000000000000
+
+abbrev pub HALF : Float
+HALF = ofBits binary64 0x3FE0000000000000

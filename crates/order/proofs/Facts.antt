@@ -14,6 +14,16 @@ module _ (x y z : Float) (nx : Num x ≡ true) (ny : Num y ≡ true) (nz : Num z
   pub le-trans : le x y ≡ true → le y z ≡ true → le x z ≡ true
   le-trans h k = simp (le-key binary64) (omega (tests, simp (le-key binary64) at h, simp (le-key binary64) at k))
 
+pub le-refl : (x : Float) → Num x ≡ true → le x x ≡ true
+le-refl x n = simp (le-key binary64) (omega tests)
+
+pub eq-refl : (x : Float) → Num x ≡ true → eq x x ≡ true
+eq-refl x n = simp (eq-key binary64) (omega tests)
+
+pub lt-le : (x y : Float) → lt x y ≡ true → le x y ≡ true
+unfolding le
+lt-le x y h = rw h
+
 module _ (x y : Float) (nx : Num x ≡ true) (ny : Num y ≡ true) where
   pub not-le : le x y ≡ false → lt y x ≡ true
   not-le h = simp (lt-key binary64) (omega (tests, simp (le-key binary64) at h))
@@ -23,3 +33,6 @@ module _ (x y : Float) (nx : Num x ≡ true) (ny : Num y ≡ true) where
 
   pub antisym : le x y ≡ true → le y x ≡ true → eq x y ≡ true
   antisym h k = simp (eq-key binary64) (omega (tests, simp (le-key binary64) at h, simp (le-key binary64) at k))
+
+  pub lt-not-eq : lt x y ≡ true → eq y x ≡ false
+  lt-not-eq h = simp (eq-key binary64) (omega (tests, simp (lt-key binary64) at h))

@@ -68,14 +68,14 @@ below-big f s (suc m) e t =
 
 -- ---- two fractions over a common scale: a * c ≡ x * d and b * c ≡ y * d, so a and b compare as x and y do
 module _ (a b x y c d : ℕ) (C : 0 < c) (D : 0 < d) (p : a * c ≡ x * d) (q : b * c ≡ y * d) where
-  less : a < b → x < y
+  pub less : a < b → x < y
   less h = lt-of-mul-lt-mul-right d (subst (λ (z : ℕ). z < y * d) p (subst (λ (z : ℕ). a * c < z) q (mul-lt-mul-of-pos-right h C)))
 
-  more : x < y → a < b
+  pub more : x < y → a < b
   more h = lt-of-mul-lt-mul-right c (subst (λ (z : ℕ). z < b * c) (sym p) (subst (λ (z : ℕ). x * d < z) (sym q) (mul-lt-mul-of-pos-right h D)))
 
 -- the same as tests
-ltb-same : (a b x y : ℕ) → (a < b → x < y) → (x < y → a < b) → ltb a b ≡ ltb x y
+pub ltb-same : (a b x y : ℕ) → (a < b → x < y) → (x < y → a < b) → ltb a b ≡ ltb x y
 ltb-same a b x y u v = go (ltb a b) (ltb x y) (ltb-true a b) (ltb-true x y) (lt-ltb a b) (lt-ltb x y)
   where
     go : (s t : Bool) → (s ≡ true → a < b) → (t ≡ true → x < y) → (a < b → s ≡ true) → (x < y → t ≡ true) → s ≡ t
@@ -108,10 +108,10 @@ module _ (f : Format) (m n : ℕ) (e d : ℤ) (E : down e ≤ 2 ^ low f) (D : do
   abbrev B : ℕ
   B = n * up d * down e
 
-  left : A * 2 ^ low f ≡ mag (low f) m e * (down e * down d)
+  pub left : A * 2 ^ low f ≡ mag (low f) m e * (down e * down d)
   left = mul-right-comm (m * up e) (down d) (2 ^ low f) ∙ ap (λ (x : ℕ). x * down d) (sym (scaled (low f) m e E)) ∙ mul-assoc (mag (low f) m e) (down e) (down d)
 
-  right : B * 2 ^ low f ≡ mag (low f) n d * (down e * down d)
+  pub right : B * 2 ^ low f ≡ mag (low f) n d * (down e * down d)
   right =
       mul-right-comm (n * up d) (down e) (2 ^ low f) ∙ ap (λ (x : ℕ). x * down e) (sym (scaled (low f) n d D)) ∙ mul-assoc (mag (low f) n d) (down d) (down e)
       ∙ ap (λ (x : ℕ). mag (low f) n d * x) (mul-comm (down d) (down e))

@@ -1,4 +1,9 @@
 pub mod Keys
 pub mod Ranks
+pub mod Units
+pub mod Rounding
 pub mod Facts
+pub mod Monotone
+pub mod Bounds
+pub mod Grids
 pub mod Choices

@@ -6,6 +6,7 @@ use Prim.Native.Nat.{ℕ, suc, _+_, _-_, _*_, _^_}
 use lib.IntN.{ℤ, pos, negsuc}
 use lib.Dec.{eqb}
 use lib.Ieee.{Float, nan, inf, fin, Format, binary64, emax, low, fits, isNan}
+use lib.Ieee.Scale.{finite}
 
 -- the size of m * 2 ^ e in units of 2 ^ -l
 unfoldable pub mag : ℕ → ℕ → ℤ → ℕ
@@ -27,6 +28,10 @@ key f (fin true m e) = big f - mag (low f) m e
 abbrev pub num : Format → Float → Bool
 num f x = fits f x && not (isNan x)
 
+-- a finite value of the format
+abbrev pub real : Format → Float → Bool
+real f x = fits f x && finite x
+
 -- zero, of either sign
 unfoldable pub isZero : Float → Bool
 isZero nan = false
@@ -39,3 +44,6 @@ K x = key binary64 x
 
 abbrev pub Num : Float → Bool
 Num x = num binary64 x
+
+abbrev pub Real : Float → Bool
+Real x = real binary64 x

@@ -4,6 +4,7 @@ use mathlib.Core.Bool.{Bool, false, _&&_, _||_, cond}
 use lib.Ieee as Ieee
 use lib.Ieee.{Float, binary64, ofBits, inf}
 use Rattle.order.specs.Choice.{smaller, larger, size}
+use Rattle.consts.specs.Constants.{TWO, HALF}
 use Rattle.consts.specs.Answer.{ZERO}
 use Rattle.consts.specs.Reading.{plain}
 use Rattle.r1.specs.declared.interval.Interval.{Interval}
@@ -30,12 +31,6 @@ ends l h = record { lo = l; hi = h }
 
 abbrev pub ONE : Float
 ONE = ofBits binary64 0x3FF0000000000000
-
-abbrev pub TWO : Float
-TWO = ofBits binary64 0x4000000000000000
-
-abbrev pub HALF : Float
-HALF = ofBits binary64 0x3FE0000000000000
 
 -- the standard empty
 abbrev pub EMPTY : Interval

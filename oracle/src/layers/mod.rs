@@ -5,3 +5,5 @@ pub mod consts;
 pub mod consts_arms;
 pub mod r1;
 pub mod r1_arms;
+pub mod s1;
+pub mod s1_arms;

@@ -9,15 +9,15 @@ use s2::consts::EPSILON;
 use crate::ops::ArmsOf;
 use crate::refusals;
 
-type Arms = (&'static [&'static str], ArmsOf);
-type Hit = Vec<&'static str>;
+pub type Arms = (&'static [&'static str], ArmsOf);
+pub type Hit = Vec<&'static str>;
 
 fn empty(lo: f64, hi: f64) -> bool {
     lo > hi
 }
 
 /// Whether a + b is rounded: Knuth's exact error of a sum, which does not overflow in reach.
-fn rounded(a: f64, b: f64) -> bool {
+pub fn rounded(a: f64, b: f64) -> bool {
     let sum = a + b;
     let part = sum - a;
     (a - (sum - part)) + (b - part) != 0.0
@@ -132,7 +132,7 @@ pub const INTERIOR_INTERSECTS: Arms =
     });
 
 /// Which of two ends `min` or `max` takes.
-fn taken(own: bool, other: bool, names: [&'static str; 3]) -> &'static str {
+pub fn taken(own: bool, other: bool, names: [&'static str; 3]) -> &'static str {
     if own {
         names[0]
     } else if other {

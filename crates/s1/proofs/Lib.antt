@@ -1,0 +1,11 @@
+pub mod Readings
+pub mod Trials
+pub mod Held
+pub mod Limits
+pub mod Places
+pub mod Seams
+pub mod Ends
+pub mod Margins
+pub mod Distances
+pub mod Expansions
+pub mod Measures

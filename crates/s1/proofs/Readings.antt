@@ -1,0 +1,38 @@
+-- Reading the operands of a circle's operation: a valid interval is in reach, so that operands within the limits are accepted, with their zeros read,
+-- which changes no place that they hold. Assumes nothing.
+use mathlib.Core.Path.{_≡_, refl}
+use mathlib.Core.Bool.{true, _&&_}
+use lib.Ieee.{Float, nan, inf, fin, binary64, ofBits, lt, le, eq, fits, isNan}
+use Rattle.order.specs.Key.{Num}
+use Rattle.order.proofs.Ranks.{and-l, and-r, and-of}
+use Rattle.consts.specs.Constants.{PI, NEG-PI}
+use Rattle.consts.specs.Reading.{inReach}
+use Rattle.consts.proofs.Remainders.{pi-in-reach}
+use Rattle.s1.specs.declared.interval.Interval.{Interval}
+use Rattle.s1.specs.Circle.{valid}
+use Rattle.s1.specs.Reading.{onCircle}
+
+-- a double from -PI on is a number
+pub num-of : (x : Float) → fits binary64 x ≡ true → le NEG-PI x ≡ true → Num x ≡ true
+unfolding le lt eq ofBits isNan fits
+num-of nan f h = h
+num-of (inf s) f h = refl
+num-of (fin s m e) f h = and-of f refl
+
+-- a point of the circle is in reach
+pub circle-reach : (p : Float) → fits binary64 p ≡ true → onCircle p ≡ true → inReach p ≡ true
+unfolding onCircle
+circle-reach p f h = let a = and-l (le NEG-PI p) (le p PI) h in pi-in-reach p (num-of p f a) a (and-r (le NEG-PI p) (le p PI) h)
+
+-- and so is a valid interval
+pub valid-on : (i : Interval) → valid i ≡ true → (onCircle (i .lo) ≡ true) × (onCircle (i .hi) ≡ true)
+unfolding valid onCircle
+valid-on i h =
+    let a : le NEG-PI (i .lo) ≡ true = search (and-l, and-r) in
+    let b : le (i .lo) PI ≡ true = search (and-l, and-r) in
+    let c : le NEG-PI (i .hi) ≡ true = search (and-l, and-r) in
+    let d : le (i .hi) PI ≡ true = search (and-l, and-r) in
+    (and-of a b, and-of c d)
+
+pub valid-reach : (i : Interval) → fits binary64 (i .lo) ≡ true → fits binary64 (i .hi) ≡ true → valid i ≡ true → inReach (i .lo) && inReach (i .hi) ≡ true
+valid-reach i f g h = and-of (circle-reach (i .lo) f (valid-on i h .0)) (circle-reach (i .hi) g (valid-on i h .1))

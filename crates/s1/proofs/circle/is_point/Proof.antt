@@ -1,0 +1,12 @@
+-- `s1::circle::is_point`: at each return the answer is the definition's, under the tests that led there. Assumes nothing.
+use Rattle.s1.specs.Circle.{single}
+use borrow.Author.Needs.{needs}
+use Rattle.s1.proofs.circle.is_point.Statement.{statement}
+use Rattle.s1.proofs.circle.is_point.Tie as tie
+
+returns : tie.Need-returns
+unfolding single
+returns c = search needs
+
+pub is-point-spec : {M : Type 1} → statement M
+is-point-spec = tie.close (tie.spec returns)

@@ -1,0 +1,4 @@
+pub mod Circle
+pub mod Reading
+pub mod Answers
+pub mod Places

@@ -1,0 +1,154 @@
+// How the operands of a circle interval's operations are read, in the order of document 01: the
+// intervals from left to right, then points, then a margin or an error. Zeros are read on the way.
+use crate::circle;
+use crate::interval::Interval;
+use consts::ACCEPTED;
+use consts::BAD_MARGIN;
+use consts::BAD_POINT;
+use consts::NEG_PI;
+use consts::NOT_VALID;
+use consts::Number;
+use consts::OUT_OF_REACH;
+use consts::PI;
+ghost use mathlib.Core.Path.{_≡_};
+ghost use Rattle.s1.specs.Reading.{readOne, readEnds, readTwo, onCircle, readPoint, readWithPoint, readWithMargin};
+
+// An interval as it is read.
+pub struct One {
+    pub refusal: u8,
+    pub value: Interval,
+}
+
+// Two intervals as they are read.
+pub struct Two {
+    pub refusal: u8,
+    pub left: Interval,
+    pub right: Interval,
+}
+
+// An interval and a number as they are read.
+pub struct With {
+    pub refusal: u8,
+    pub value: Interval,
+    pub number: f64,
+}
+
+// Why an interval is refused, or 0. A valid interval is in reach, so only one that is not valid is
+// tested a second time.
+fn refusal_of(i: Interval) -> u8
+    ensures { λ r. ⌜ r ≡ (readOne i) .refusal ⌝ }
+{
+    if circle::is_valid(i) {
+        return ACCEPTED;
+    }
+    if consts::in_reach(i.lo) & consts::in_reach(i.hi) {
+        return NOT_VALID;
+    }
+    OUT_OF_REACH
+}
+
+// Reads an interval: every operation on one comes through here.
+pub fn read_one(i: Interval) -> One
+    ensures { λ r. ⌜ r ≡ readOne i ⌝ }
+{
+    let refusal = refusal_of(i);
+    let lo = consts::zero_read(i.lo);
+    let hi = consts::zero_read(i.hi);
+    let value = Interval { lo, hi };
+    One { refusal, value }
+}
+
+// Whether a point is one of the circle: of size at most PI.
+fn on_circle(p: f64) -> bool
+    ensures { λ r. ⌜ r ≡ onCircle p ⌝ }
+{
+    (NEG_PI <= p) & (p <= PI)
+}
+
+// Why two ends make no interval, or 0.
+fn refusal_of_ends(lo: f64, hi: f64) -> u8
+    ensures { λ r. ⌜ r ≡ (readEnds lo hi) .refusal ⌝ }
+{
+    if on_circle(lo) & on_circle(hi) {
+        return ACCEPTED;
+    }
+    if consts::in_reach(lo) & consts::in_reach(hi) {
+        return NOT_VALID;
+    }
+    OUT_OF_REACH
+}
+
+// Reads the ends of an interval that is to be made, before the seam is normalised.
+pub fn read_ends(lo: f64, hi: f64) -> One
+    ensures { λ r. ⌜ r ≡ readEnds lo hi ⌝ }
+{
+    let refusal = refusal_of_ends(lo, hi);
+    let l = consts::zero_read(lo);
+    let h = consts::zero_read(hi);
+    let value = Interval { lo: l, hi: h };
+    One { refusal, value }
+}
+
+// Reads two intervals, the left one first.
+pub fn read_two(i: Interval, o: Interval) -> Two
+    ensures { λ r. ⌜ r ≡ readTwo i o ⌝ }
+{
+    let a = read_one(i);
+    let b = read_one(o);
+    let refusal = consts::first_refusal(a.refusal, b.refusal);
+    let left = a.value;
+    let right = b.value;
+    Two {
+        refusal,
+        left,
+        right,
+    }
+}
+
+// Reads a point of the circle.
+pub fn read_point(p: f64) -> Number
+    ensures { λ r. ⌜ r ≡ readPoint p ⌝ }
+{
+    let value = consts::zero_read(p);
+    if on_circle(p) {
+        Number {
+            refusal: ACCEPTED,
+            value,
+        }
+    } else {
+        Number {
+            refusal: BAD_POINT,
+            value,
+        }
+    }
+}
+
+// Reads an interval, then a point.
+pub fn read_with_point(i: Interval, p: f64) -> With
+    ensures { λ r. ⌜ r ≡ readWithPoint i p ⌝ }
+{
+    let a = read_one(i);
+    let b = read_point(p);
+    let refusal = consts::first_refusal(a.refusal, b.refusal);
+    let value = a.value;
+    With {
+        refusal,
+        value,
+        number: b.value,
+    }
+}
+
+// Reads an interval, then a margin.
+pub fn read_with_margin(i: Interval, margin: f64) -> With
+    ensures { λ r. ⌜ r ≡ readWithMargin i margin ⌝ }
+{
+    let a = read_one(i);
+    let b = consts::read_number(margin, BAD_MARGIN);
+    let refusal = consts::first_refusal(a.refusal, b.refusal);
+    let value = a.value;
+    With {
+        refusal,
+        value,
+        number: b.value,
+    }
+}

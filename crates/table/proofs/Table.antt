@@ -1,0 +1,57 @@
+-- Document 01's boundary examples marked P: a single table, each line computed, rounding included. Longitudes are in radians; numbers are named here and
+-- given by their bits. Assumes nothing.
+use mathlib.Core.Path.{_≡_, refl}
+use lib.Ieee.{Float, binary64, ofBits, lt, le, eq, add, sub}
+use Rattle.consts.specs.Constants.{PI, NEG-PI}
+use Rattle.consts.specs.Answer.{ZERO}
+use Rattle.consts.specs.Reading.{inReach, plain}
+use Rattle.consts.specs.Refusal.{firstRefusal}
+use Rattle.s1.specs.declared.interval.Interval.{Interval}
+use Rattle.s1.specs.Circle.{ends, FULL, EMPTY, distance, seam, valid, full, empty, length, fast, covers, hull, overlap, grown}
+use Rattle.s1.specs.Reading.{readOne, readTwo, onCircle, readPoint}
+use Rattle.s1.specs.Answers.{circleAnswer, union, intersection, add as grow}
+
+abbrev ONE : Float
+ONE = ofBits binary64 0x3FF0000000000000
+
+abbrev NEG-ONE : Float
+NEG-ONE = ofBits binary64 0xBFF0000000000000
+
+abbrev FOUR : Float
+FOUR = ofBits binary64 0x4010000000000000
+
+-- the double just above -PI
+abbrev ABOVE : Float
+ABOVE = ofBits binary64 0xC00921FB54442D17
+
+-- one point
+abbrev at : Float → Interval
+at p = ends p p
+
+pub record Table : Type 0 where
+  -- [-1, 1] and [1, -1] meet at both ends: the crate's intersection is one of them, and their union FULL
+  pub two-wide : intersection (ends NEG-ONE ONE) (ends ONE NEG-ONE) ≡ circleAnswer (ends NEG-ONE ONE)
+  pub two-wide-union : union (ends NEG-ONE ONE) (ends ONE NEG-ONE) ≡ circleAnswer FULL
+  -- both lengths round to 2 PI
+  pub nearly-full : intersection FULL (ends ABOVE PI) ≡ circleAnswer FULL
+  -- the union of two points depends on the order
+  pub zero-seam : union (at ZERO) (at PI) ≡ circleAnswer (ends ZERO PI)
+  pub seam-zero : union (at PI) (at ZERO) ≡ circleAnswer (ends PI ZERO)
+  -- -PI is the place PI
+  pub grown-seam : grow EMPTY NEG-PI ≡ circleAnswer (at PI)
+  -- no point of the circle
+  pub grown-refused : grow (ends ZERO ONE) FOUR ≡ record { refusal = 3; value = ends ZERO ONE }
+
+pub table : Table
+unfolding
+    intersection union grow readOne readTwo readPoint onCircle firstRefusal inReach plain valid full empty fast covers hull overlap length distance seam grown le lt eq add sub ofBits
+table =
+    record {
+      two-wide = refl;
+      two-wide-union = refl;
+      nearly-full = refl;
+      zero-seam = refl;
+      seam-zero = refl;
+      grown-seam = refl;
+      grown-refused = refl;
+    }
