@@ -26,14 +26,6 @@ pub fn answer(op: &Op, numbers: &[f64]) -> Answer {
     Answer { refusal, value }
 }
 
-/// Whether a named difference sets the crate's answer to this accepted question aside.
-pub fn named_difference(op: &Op, numbers: &[f64]) -> bool {
-    match differences::instead(op, numbers) {
-        Some(ours) => without_negative_zero(ours) != without_negative_zero((op.call)(numbers)),
-        None => false,
-    }
-}
-
 /// An accepted answer has no negative zero.
 fn without_negative_zero(value: Value) -> Value {
     let plain = |x: f64| if x == 0.0 { 0.0 } else { x };

@@ -1,27 +1,38 @@
-//! A small check of the oracle itself: worked answers, the remainder by exact whole numbers, and the
-//! statements over places that hold for the crate.
+//! A small check of the oracle itself: worked answers, the remainder by exact whole numbers, our tests
+//! of validity against the crate's, and the statements over places that hold for the crate.
 
 use crate::answer::answer_line;
 use crate::draw;
 use crate::examples;
 use crate::layers::consts::TWO_PI;
-use crate::ops;
+use crate::ops::{self, Value};
 use crate::places;
+use crate::question;
+use crate::refusals;
 use crate::rng::Rng;
 
-/// How many remainders, and how many pairs of circle intervals.
+/// How many remainders, pairs of circle intervals, pairs of rectangles, and questions of validity.
 const REMAINDERS: usize = 1_000_000;
-const PAIRS: usize = 200_000;
+const CIRCLE_PAIRS: usize = 200_000;
+const RECT_PAIRS: usize = 100_000;
+const VALIDITY_TESTS: usize = 200_000;
 
 /// Prints what is wrong; gives the number of faults.
 pub fn run() -> usize {
-    let worked = worked_answers();
-    println!("{} worked answers: {worked} wrong", examples::ALL.iter().map(|part| part.len()).sum::<usize>());
-    let remainders = exact_remainders();
-    println!("{REMAINDERS} exact remainders: {remainders} wrong");
-    let circles = places::circle_faults(PAIRS);
-    println!("{PAIRS} pairs of circle intervals against places: {circles} wrong");
-    worked + remainders + circles
+    let worked: usize = examples::ALL.iter().map(|part| part.len()).sum();
+    [
+        ("worked answers", worked, worked_answers()),
+        ("exact remainders", REMAINDERS, exact_remainders()),
+        ("tests of validity against the crate's", VALIDITY_TESTS, validity_tests()),
+        ("pairs of circle intervals against places", CIRCLE_PAIRS, places::circle::faults(CIRCLE_PAIRS)),
+        ("pairs of rectangles against places", RECT_PAIRS, places::rect::faults(RECT_PAIRS)),
+    ]
+    .into_iter()
+    .map(|(what, count, wrong)| {
+        println!("{count} {what}: {wrong} wrong");
+        wrong
+    })
+    .sum()
 }
 
 fn worked_answers() -> usize {
@@ -59,6 +70,26 @@ fn exact_remainders() -> usize {
         let (got, exact) = (s2::consts::remainder(x, TWO_PI), exact_remainder(x));
         if got != exact {
             println!("remainder {:016X}: the crate {got:e}, exactly {exact:e}", x.to_bits());
+            faults += 1;
+        }
+    }
+    faults
+}
+
+/// Our own tests of validity, which decide refusals, must say what the crate's say of numbers in reach.
+fn validity_tests() -> usize {
+    let mut rng = Rng::new(1, "validity");
+    let mut faults = 0;
+    for count in 0..VALIDITY_TESTS {
+        let name = ["s1.is_valid", "latlng.is_valid", "rect.is_valid"][count % 3];
+        let op = ops::find(name.as_bytes()).expect("a test of validity");
+        let drawn = draw::numbers(&mut rng, op, count % 2 == 0);
+        if !drawn.iter().all(|x| refusals::in_reach(*x)) {
+            continue;
+        }
+        let accepted = refusals::refusal(op, &drawn) == refusals::ACCEPTED;
+        if (op.call)(&drawn) != Value::Test(accepted) {
+            println!("{}: accepted {accepted}, the crate says otherwise", question::write(op, &drawn));
             faults += 1;
         }
     }

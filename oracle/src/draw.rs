@@ -2,6 +2,7 @@
 //! in a relation to the earlier ones of the same question, so that ties and near misses are common.
 
 pub mod circle;
+pub mod rect;
 
 use std::f64::consts::PI;
 
@@ -60,6 +61,15 @@ pub fn numbers(rng: &mut Rng, op: &Op, clean: bool) -> Vec<f64> {
             Role::Circle => drawn.extend(circle::interval(rng, &drawn)),
             Role::CircleEnds => drawn.extend(circle::ends(rng)),
             Role::CirclePoint => drawn.push(circle::point(rng, &drawn)),
+            Role::Rect => drawn.extend(rect::rect(rng, &drawn)),
+            Role::LatLng | Role::AmountPair => {
+                let (lats, lngs) = parts(op, &drawn);
+                drawn.extend(match role {
+                    Role::LatLng => rect::point(rng, &lats, &lngs),
+                    _ => rect::amounts(rng, &lats, &lngs),
+                });
+            }
+            Role::VertexNumber => drawn.push(rect::vertex_number(rng)),
             Role::Amount if on_circle => drawn.push(circle::amount(rng, &drawn)),
             Role::LinePoint | Role::Amount | Role::RemainderArgument => {
                 drawn.push(related_or_fresh(rng, *role, &drawn))
@@ -70,6 +80,19 @@ pub fn numbers(rng: &mut Rng, op: &Op, clean: bool) -> Vec<f64> {
         spoil(rng, op, &mut drawn);
     }
     drawn
+}
+
+/// The latitudes and the longitudes among the numbers drawn so far.
+fn parts(op: &Op, drawn: &[f64]) -> (Vec<f64>, Vec<f64>) {
+    let (mut lats, mut lngs) = (Vec::new(), Vec::new());
+    for ((role, place), x) in op.places().zip(drawn) {
+        match (role, place) {
+            (Role::Rect, 0 | 1) | (Role::LatLng, 0) => lats.push(*x),
+            (Role::Rect, _) | (Role::LatLng, _) => lngs.push(*x),
+            _ => {}
+        }
+    }
+    (lats, lngs)
 }
 
 /// Adds a line interval.
@@ -88,21 +111,35 @@ fn line(rng: &mut Rng, drawn: &mut Vec<f64>) {
 /// Makes one number one that its role does not take, and each other one now and then. Others become
 /// -0, since what a refusal hands back must keep its bits.
 fn spoil(rng: &mut Rng, op: &Op, drawn: &mut [f64]) {
-    let roles: Vec<Role> = op.takes.iter().flat_map(|role| vec![*role; role.width()]).collect();
+    let places: Vec<(Role, usize)> = op.places().collect();
+    if let Some(rect) = some_rect(rng, op) {
+        if rng.percent(20) {
+            return rect::half_empty(rng, &mut drawn[rect..rect + 4]);
+        }
+    }
     let sure = rng.below(drawn.len());
     for (at, x) in drawn.iter_mut().enumerate() {
+        let (role, place) = places[at];
         if at == sure || rng.percent(20) {
-            *x = outside(rng, roles[at]);
-        } else if rng.percent(15) {
+            *x = outside(rng, role, place);
+        } else if role != Role::VertexNumber && rng.percent(15) {
             *x = -0.0;
         }
     }
 }
 
+/// Where the numbers of a rectangle begin, any one of the question's.
+fn some_rect(rng: &mut Rng, op: &Op) -> Option<usize> {
+    let is_start = |(role, place): &(Role, usize)| *role == Role::Rect && *place == 0;
+    let places: Vec<(Role, usize)> = op.places().collect();
+    let starts: Vec<usize> = (0..places.len()).filter(|at| is_start(&places[*at])).collect();
+    (!starts.is_empty()).then(|| rng.pick(&starts))
+}
+
 fn related_or_fresh(rng: &mut Rng, role: Role, earlier: &[f64]) -> f64 {
     loop {
         let x = if !earlier.is_empty() && rng.percent(50) { related(rng, earlier) } else { fresh(rng, role) };
-        if x.abs() <= largest(role) {
+        if x.abs() <= largest(role, 0) {
             return x;
         }
     }
@@ -189,17 +226,29 @@ fn scaled(rng: &mut Rng) -> f64 {
 }
 
 /// A number that the role does not take, or does not take in most places (-PI in a circle interval).
-fn outside(rng: &mut Rng, role: Role) -> f64 {
-    match role {
-        Role::RemainderArgument if rng.percent(50) => {
+fn outside(rng: &mut Rng, role: Role, place: usize) -> f64 {
+    match (role, place) {
+        (Role::RemainderArgument, _) if rng.percent(50) => {
             let x = rng.pick(&[REMAINDER_REACH.next_up(), REMAINDER_REACH * 1.25, 13.0, 1e9, REACH]);
             signed(rng, x)
         }
-        Role::Circle if rng.percent(25) => -PI,
-        Role::Circle | Role::CircleEnds | Role::CirclePoint if rng.percent(50) => {
+        (Role::Circle, _) | (Role::Rect, 2 | 3) if rng.percent(25) => -PI,
+        (Role::Circle | Role::CircleEnds | Role::CirclePoint, _)
+        | (Role::Rect, 2 | 3)
+        | (Role::LatLng, 1)
+            if rng.percent(50) =>
+        {
             let x = rng.pick(&[PI.next_up(), PI.next_up(), 3.5, 4.0, TWO_PI, 1e9, REACH]);
             signed(rng, x)
         }
-        _ => f64::from_bits(rng.pick(OUTSIDE)),
+        (Role::Rect, 0 | 1) | (Role::LatLng, 0) => rect::no_latitude(rng),
+        // Every vertex number is taken.
+        (Role::VertexNumber, _) => rect::vertex_number(rng),
+        _ => out_of_reach(rng),
     }
+}
+
+/// A number out of reach.
+fn out_of_reach(rng: &mut Rng) -> f64 {
+    f64::from_bits(rng.pick(OUTSIDE))
 }

@@ -2,13 +2,14 @@
 
 mod circle;
 mod line;
+mod rect;
 
 use std::f64::consts::PI;
 
 /// Questions and their answers. A number may be spelled for the reader: with a point, or as PI.
 pub type Worked = &'static [(&'static str, &'static str)];
 
-pub const ALL: &[Worked] = &[line::WORKED, circle::WORKED];
+pub const ALL: &[Worked] = &[line::WORKED, circle::WORKED, rect::WORKED];
 
 /// The text as the protocol writes it: every spelled number as its bit pattern. The first word is an
 /// operation's name or a refusal number, never a number.

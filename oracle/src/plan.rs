@@ -4,7 +4,7 @@
 use crate::answer::answer;
 use crate::draw;
 use crate::malformed;
-use crate::ops::{self, Gives, Op, Value};
+use crate::ops::{self, Arm, Gives, Op, Role, Value};
 use crate::question;
 use crate::refusals;
 use crate::rng::Rng;
@@ -14,31 +14,31 @@ use crate::rng::Rng;
 pub enum Aim {
     Anything,
     Refusal(u8),
-    Arm(&'static str),
+    Arm(Arm),
     Test(bool),
 }
 
 /// Arms that we ask of every operation: kinds of operands that the port must read right.
-const NEGATIVE_ZERO: &str = "an operand is -0";
-const LARGEST: &str = "an operand is at the end of reach";
+const NEGATIVE_ZERO: Arm = Arm { part: "", name: "an operand is -0" };
+const LARGEST: Arm = Arm { part: "", name: "an operand is at the end of reach" };
 
 /// All arms of an operation, with those that are asked of every operation that has operands.
-pub fn arms(op: &Op) -> Vec<&'static str> {
-    let mut names = op.arms.to_vec();
+pub fn arms(op: &Op) -> Vec<Arm> {
+    let mut arms = op.arms();
     if !op.takes.is_empty() {
-        names.extend([NEGATIVE_ZERO, LARGEST]);
+        arms.extend([NEGATIVE_ZERO, LARGEST]);
     }
-    names
+    arms
 }
 
 /// The arms that an accepted question reaches.
-pub fn arms_reached(op: &Op, numbers: &[f64]) -> Vec<&'static str> {
-    let mut hit = Vec::new();
-    (op.arms_of)(numbers, &mut hit);
+pub fn arms_reached(op: &Op, numbers: &[f64]) -> Vec<Arm> {
+    let mut hit = op.arms_reached(numbers);
     if numbers.iter().any(|x| x.to_bits() == (-0.0f64).to_bits()) {
         hit.push(NEGATIVE_ZERO);
     }
-    if op.operands(numbers).any(|(role, own)| own.iter().any(|x| x.abs() == refusals::largest(role))) {
+    let at_the_end = |((role, place), x): ((Role, usize), &f64)| x.abs() == refusals::largest(role, place);
+    if op.places().zip(numbers).any(at_the_end) {
         hit.push(LARGEST);
     }
     hit

@@ -1,6 +1,6 @@
 //! Reading one line of the protocol into a question, and writing a question as a line.
 
-use crate::ops::{self, Op};
+use crate::ops::{self, Op, Role};
 
 /// An operation and its numbers, as they came.
 pub struct Question {
@@ -21,10 +21,12 @@ pub fn read(line: &[u8]) -> Option<Question> {
     let mut words = line.split(|byte| *byte == b' ');
     let op = ops::find(words.next()?)?;
     let mut numbers = Vec::with_capacity(op.width());
-    for role in op.takes {
-        for _ in 0..role.width() {
-            numbers.push(number(words.next()?)?);
-        }
+    for (role, _) in op.places() {
+        let word = words.next()?;
+        numbers.push(match role {
+            Role::VertexNumber => digits(word, 2)? as f64,
+            _ => f64::from_bits(digits(word, 16)?),
+        });
     }
     match words.next() {
         None => Some(Question { op, numbers }),
@@ -32,24 +34,28 @@ pub fn read(line: &[u8]) -> Option<Question> {
     }
 }
 
-/// A number: its bit pattern in 16 hexadecimal digits of either case.
-fn number(word: &[u8]) -> Option<f64> {
-    if word.len() != 16 {
+/// A whole number in just so many hexadecimal digits of either case. A double is written as its bit
+/// pattern in 16.
+fn digits(word: &[u8], count: usize) -> Option<u64> {
+    if word.len() != count {
         return None;
     }
-    let mut bits = 0;
+    let mut whole = 0;
     for byte in word {
         let digit = (*byte as char).to_digit(16)?;
-        bits = bits << 4 | u64::from(digit);
+        whole = whole << 4 | u64::from(digit);
     }
-    Some(f64::from_bits(bits))
+    Some(whole)
 }
 
 /// The line that asks this question, in upper-case digits.
 pub fn write(op: &Op, numbers: &[f64]) -> String {
     let mut line = String::from(op.name);
-    for number in numbers {
-        line.push_str(&format!(" {:016X}", number.to_bits()));
+    for ((role, _), number) in op.places().zip(numbers) {
+        line.push_str(&match role {
+            Role::VertexNumber => format!(" {:02X}", *number as u8),
+            _ => format!(" {:016X}", number.to_bits()),
+        });
     }
     line
 }

@@ -1,7 +1,7 @@
 //! Document 01's refusals: when an operation refuses, and what it hands back then. This is code of
 //! our own. The crate has no refusals, and nothing here calls it.
 
-use std::f64::consts::PI;
+use std::f64::consts::{FRAC_PI_2, PI};
 
 use crate::ops::{Gives, Op, Role, Value};
 
@@ -11,8 +11,8 @@ pub const REACH: f64 = f64::from_bits(0x5F30_0000_0000_0000);
 /// The largest size that `remainder` takes: 4 PI.
 pub const REMAINDER_REACH: f64 = f64::from_bits(0x4029_21FB_5444_2D18);
 
-/// Rust's PI is the double that document 01 calls PI.
-const _: () = assert!(PI.to_bits() == 0x4009_21FB_5444_2D18);
+/// Rust's PI is the double that document 01 calls PI, and FRAC_PI_2 is half of it.
+const _: () = assert!(PI.to_bits() == 0x4009_21FB_5444_2D18 && 2.0 * FRAC_PI_2 == PI);
 
 pub const ACCEPTED: u8 = 0;
 pub const OUT_OF_REACH: u8 = 1;
@@ -25,11 +25,15 @@ pub fn in_reach(x: f64) -> bool {
     x.abs() <= REACH
 }
 
-/// The largest size that a number of this role may have.
-pub fn largest(role: Role) -> f64 {
+/// The largest size that a number may have, by its role and its place in that operand. (An empty
+/// latitude may have a hi far below -PI/2. We do not count that as its largest size.)
+pub fn largest(role: Role, place: usize) -> f64 {
     match role {
-        Role::Line | Role::LinePoint | Role::Amount => REACH,
+        Role::Line | Role::LinePoint | Role::Amount | Role::AmountPair => REACH,
         Role::Circle | Role::CircleEnds | Role::CirclePoint => PI,
+        Role::Rect => [FRAC_PI_2, FRAC_PI_2, PI, PI][place],
+        Role::LatLng => [FRAC_PI_2, PI][place],
+        Role::VertexNumber => 255.0,
         Role::RemainderArgument => REMAINDER_REACH,
     }
 }
@@ -40,16 +44,27 @@ pub fn circle_is_valid(lo: f64, hi: f64) -> bool {
     lo.abs() <= PI && hi.abs() <= PI && seam_is_pi
 }
 
+/// Size of lat.lo and value of lat.hi at most PI/2, circle valid, both parts empty or neither.
+pub fn rect_is_valid(lat_lo: f64, lat_hi: f64, lng_lo: f64, lng_hi: f64) -> bool {
+    let lat_empty = lat_lo > lat_hi;
+    let lng_empty = lng_lo == PI && lng_hi == -PI;
+    lat_lo.abs() <= FRAC_PI_2
+        && lat_hi <= FRAC_PI_2
+        && circle_is_valid(lng_lo, lng_hi)
+        && lat_empty == lng_empty
+}
+
 /// The number that this operand by itself is refused with, or 0.
-fn fault(role: Role, numbers: &[f64]) -> u8 {
-    let all_in_reach = numbers.iter().all(|x| in_reach(*x));
-    let all_small = numbers.iter().all(|x| x.abs() <= largest(role));
+fn fault(role: Role, n: &[f64]) -> u8 {
+    let all_in_reach = n.iter().all(|x| in_reach(*x));
+    let all_small = n.iter().enumerate().all(|(place, x)| x.abs() <= largest(role, place));
     match role {
-        Role::Line | Role::Circle | Role::CircleEnds if !all_in_reach => OUT_OF_REACH,
-        Role::Circle if !circle_is_valid(numbers[0], numbers[1]) => NOT_VALID,
+        Role::Line | Role::Circle | Role::CircleEnds | Role::Rect if !all_in_reach => OUT_OF_REACH,
+        Role::Circle if !circle_is_valid(n[0], n[1]) => NOT_VALID,
         Role::CircleEnds if !all_small => NOT_VALID,
-        Role::LinePoint | Role::CirclePoint if !all_small => BAD_POINT,
-        Role::Amount | Role::RemainderArgument if !all_small => BAD_AMOUNT,
+        Role::Rect if !rect_is_valid(n[0], n[1], n[2], n[3]) => NOT_VALID,
+        Role::LinePoint | Role::CirclePoint | Role::LatLng if !all_small => BAD_POINT,
+        Role::Amount | Role::AmountPair | Role::RemainderArgument if !all_small => BAD_AMOUNT,
         _ => ACCEPTED,
     }
 }
@@ -57,9 +72,9 @@ fn fault(role: Role, numbers: &[f64]) -> u8 {
 /// Document 01's order: intervals and rectangles first, then points, then margins, sizes and errors.
 fn turn(role: Role) -> u8 {
     match role {
-        Role::Line | Role::Circle | Role::CircleEnds => 0,
-        Role::LinePoint | Role::CirclePoint => 1,
-        Role::Amount | Role::RemainderArgument => 2,
+        Role::Line | Role::Circle | Role::CircleEnds | Role::Rect => 0,
+        Role::LinePoint | Role::CirclePoint | Role::LatLng => 1,
+        Role::Amount | Role::AmountPair | Role::RemainderArgument | Role::VertexNumber => 2,
     }
 }
 
@@ -87,9 +102,10 @@ pub fn possible(op: &Op) -> Vec<u8> {
 fn faults_of(role: Role) -> &'static [u8] {
     match role {
         Role::Line => &[OUT_OF_REACH],
-        Role::Circle | Role::CircleEnds => &[OUT_OF_REACH, NOT_VALID],
-        Role::LinePoint | Role::CirclePoint => &[BAD_POINT],
-        Role::Amount | Role::RemainderArgument => &[BAD_AMOUNT],
+        Role::Circle | Role::CircleEnds | Role::Rect => &[OUT_OF_REACH, NOT_VALID],
+        Role::LinePoint | Role::CirclePoint | Role::LatLng => &[BAD_POINT],
+        Role::Amount | Role::AmountPair | Role::RemainderArgument => &[BAD_AMOUNT],
+        Role::VertexNumber => &[],
     }
 }
 
@@ -99,7 +115,10 @@ pub fn result(op: &Op, number: u8, numbers: &[f64]) -> Value {
         Gives::GrownLine | Gives::GrownCircle if number == BAD_POINT => Value::Numbers(numbers[..2].to_vec()),
         Gives::Line | Gives::GrownLine => Value::Numbers(vec![1.0, 0.0]),
         Gives::Circle | Gives::GrownCircle => Value::Numbers(vec![PI, -PI]),
+        Gives::GrownRect if number == BAD_POINT => Value::Numbers(numbers[..4].to_vec()),
+        Gives::Rect | Gives::GrownRect => Value::Numbers(vec![1.0, 0.0, PI, -PI]),
         Gives::Number | Gives::Distance => Value::Numbers(vec![0.0]),
+        Gives::NumberPair => Value::Numbers(vec![0.0, 0.0]),
         Gives::Test | Gives::Validity => Value::Test(false),
     }
 }

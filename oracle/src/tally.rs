@@ -2,18 +2,22 @@
 //! asked, so that an agreement means something.
 
 use std::collections::BTreeMap;
+use std::f64::consts::{FRAC_PI_2, PI};
 use std::fs::File;
 use std::io::{self, BufReader};
 
-use crate::answer::named_difference;
+use crate::differences;
 use crate::lines::Lines;
-use crate::ops::{self, Gives, Op};
+use crate::ops::{self, Arm, Gives, Op};
 use crate::plan;
 use crate::question;
 use crate::refusals;
 
-/// How many differing questions of an operation are shown.
+/// How many differing questions of an operation are shown, the simplest ones.
 const SHOWN: usize = 3;
+
+/// The answer to what is no question. A judge that lacks an operation gives it to questions too.
+const NO_ANSWER: &[u8] = b"?";
 
 /// What was counted for one operation, or for the malformed lines.
 #[derive(Default)]
@@ -24,9 +28,12 @@ struct Row {
     yes: usize,
     no: usize,
     named: usize,
+    /// questions that the judge has no answer to: they are not compared
+    lacking: usize,
     differ: usize,
-    arms: BTreeMap<&'static str, usize>,
-    shown: Vec<String>,
+    arms: BTreeMap<Arm, usize>,
+    /// differing questions with both answers, and how hard each is to read
+    shown: Vec<(usize, String)>,
 }
 
 impl Row {
@@ -35,8 +42,7 @@ impl Row {
     }
 
     /// Counts the judge's answer, and whether the other door says the same.
-    fn add_answers(&mut self, asked: &[u8], judge: Option<&[u8]>, other: Option<&[u8]>) {
-        self.asked += 1;
+    fn add_answers(&mut self, asked: &[u8], judge: Option<&[u8]>, other: Option<&[u8]>, weight: usize) {
         let text = shown(judge);
         let mut words = text.split(' ');
         let refusal = words.next().unwrap_or("").to_string();
@@ -50,10 +56,22 @@ impl Row {
         *self.by_refusal.entry(refusal).or_default() += 1;
         if judge != other || judge.is_none() {
             self.differ += 1;
-            if self.shown.len() < SHOWN {
-                let asked = shown(Some(asked));
-                self.shown.push(format!("  {asked}\n    judge: {text}\n    other: {}", shown(other)));
-            }
+            self.show(weight, || {
+                format!("  {}\n    judge: {text}\n    other: {}", shown(Some(asked)), shown(other))
+            });
+        }
+    }
+
+    /// Keeps the simplest differing questions, each once, of equally simple ones the first.
+    fn show(&mut self, weight: usize, text: impl FnOnce() -> String) {
+        let at = self.shown.partition_point(|(other, _)| *other <= weight);
+        if at == SHOWN {
+            return;
+        }
+        let entry = (weight, text());
+        if !self.shown.contains(&entry) {
+            self.shown.insert(at, entry);
+            self.shown.truncate(SHOWN);
         }
     }
 
@@ -62,8 +80,18 @@ impl Row {
         for arm in plan::arms_reached(op, numbers) {
             *self.arms.entry(arm).or_default() += 1;
         }
-        self.named += usize::from(named_difference(op, numbers));
+        self.named += usize::from(differences::instead(op, numbers).is_some());
     }
+}
+
+/// How hard a question's numbers are to read: their digits that are not 0, and little for PI.
+fn weight(numbers: &[f64]) -> usize {
+    let nonzero = |bits: u64| (0..16).filter(|place| bits >> (4 * place) & 0xF != 0).count();
+    let one = |x: &f64| match x.abs() {
+        size if size == PI || size == FRAC_PI_2 => 2,
+        _ => nonzero(x.to_bits()),
+    };
+    numbers.iter().map(one).sum()
 }
 
 /// A line for the eye: printable, and not too long.
@@ -114,11 +142,17 @@ impl Tally {
         let name = read.as_ref().map_or(MALFORMED, |question| question.op.name);
         let at = self.rows.iter().position(|row| row.0 == name).expect("every operation has a row");
         let row = &mut self.rows[at].2;
-        row.add_answers(asked, judge, other);
-        if let Some(question) = read {
-            if refusals::refusal(question.op, &question.numbers) == refusals::ACCEPTED {
-                row.add_reached(question.op, &question.numbers);
-            }
+        row.asked += 1;
+        let Some(question) = read else {
+            return row.add_answers(asked, judge, other, asked.len());
+        };
+        if judge == Some(NO_ANSWER) {
+            row.lacking += 1;
+        } else {
+            row.add_answers(asked, judge, other, weight(&question.numbers));
+        }
+        if refusals::refusal(question.op, &question.numbers) == refusals::ACCEPTED {
+            row.add_reached(question.op, &question.numbers);
         }
     }
 
@@ -132,27 +166,33 @@ impl Tally {
         seen
     }
 
+    /// Whether the judge lacks an answer to any question.
+    fn any_lacking(&self) -> bool {
+        self.rows.iter().any(|row| row.2.lacking > 0)
+    }
+
     /// The table, a line an operation.
     pub fn print(&self, arms: bool) {
         let seen = self.refusals_seen();
         let titles: String = seen.iter().map(|number| format!("{:>9}", format!("ref. {number}"))).collect();
+        let lacks = if self.any_lacking() { "   lacks" } else { "" };
         println!(
-            "{:<30}{:>8}{:>10}{titles}{:>8}{:>8}{:>8}{:>8}",
+            "{:<30}{:>8}{:>10}{titles}{:>8}{:>8}{:>8}{lacks}{:>8}",
             "operation", "asked", "accepted", "yes", "no", "named", "differ"
         );
         for (name, op, row) in &self.rows {
-            print_row(name, *op, row, &seen);
+            print_row(name, *op, row, &seen, self.any_lacking());
             if arms {
                 row.arms.iter().for_each(|(arm, times)| println!("    {times:>8}  {arm}"));
             }
         }
     }
 
-    /// The first differing questions with both answers.
+    /// The simplest differing questions with both answers.
     pub fn print_differing(&self) {
         for (name, _, row) in self.rows.iter().filter(|row| row.2.differ > 0) {
-            println!("{name}: {} differ; the first:", row.differ);
-            row.shown.iter().for_each(|text| println!("{text}"));
+            println!("{name}: {} differ; the simplest:", row.differ);
+            row.shown.iter().for_each(|(_, text)| println!("{text}"));
         }
         if self.extra_lines > 0 {
             println!("a door wrote {} lines after its last answer", self.extra_lines);
@@ -173,7 +213,7 @@ impl Tally {
     }
 }
 
-fn print_row(name: &str, op: Option<&Op>, row: &Row, seen: &[String]) {
+fn print_row(name: &str, op: Option<&Op>, row: &Row, seen: &[String], lacks: bool) {
     let Some(op) = op else {
         let (asked, no_question, differ) = (row.asked, row.count("?"), row.differ);
         println!("{name}: asked {asked}, answered ? {no_question}, differ {differ}");
@@ -184,8 +224,9 @@ fn print_row(name: &str, op: Option<&Op>, row: &Row, seen: &[String]) {
         Gives::Test | Gives::Validity => count.to_string(),
         _ => "-".to_string(),
     };
+    let lacking = if lacks { format!("{:>8}", row.lacking) } else { String::new() };
     println!(
-        "{name:<30}{:>8}{:>10}{refused}{:>8}{:>8}{:>8}{:>8}",
+        "{name:<30}{:>8}{:>10}{refused}{:>8}{:>8}{:>8}{lacking}{:>8}",
         row.asked,
         row.count("0"),
         test(row.yes),
@@ -195,7 +236,8 @@ fn print_row(name: &str, op: Option<&Op>, row: &Row, seen: &[String]) {
     );
 }
 
-/// What the questions of one operation lack: too few accepted, a refusal, an arm, yes or no.
+/// What the questions of one operation lack: too few accepted, a refusal, an arm, yes or no. Of an
+/// operation that the judge lacks nothing is wanted.
 fn lacks(op: Option<&Op>, row: &Row) -> Vec<String> {
     let mut lacks = Vec::new();
     let mut need = |what: String, have: usize, least: usize| {
@@ -207,13 +249,16 @@ fn lacks(op: Option<&Op>, row: &Row) -> Vec<String> {
         need("answered ?".to_string(), row.count("?"), row.asked);
         return lacks;
     };
+    if row.lacking == row.asked && row.asked > 0 {
+        return Vec::new();
+    }
     let accepted = row.count("0");
     need("accepted".to_string(), accepted, (row.asked * 60).div_ceil(100));
     for number in refusals::possible(op) {
         need(format!("refused with {number}"), row.count(&number.to_string()), row.asked / 200);
     }
     for arm in plan::arms(op) {
-        need(format!("arm '{arm}'"), row.arms.get(arm).copied().unwrap_or(0), row.asked / 200);
+        need(format!("arm '{arm}'"), row.arms.get(&arm).copied().unwrap_or(0), row.asked / 200);
     }
     if op.gives == Gives::Test {
         need("yes".to_string(), row.yes, accepted.div_ceil(10));

@@ -1,8 +1,7 @@
 //! The stored questions of the program `ask`: for each operation boundary values in every place,
 //! every refusal and every arm several times, random questions, and malformed lines of every kind.
 
-use crate::draw::circle::KNOWN;
-use crate::draw::{EDGES, OUTSIDE};
+use crate::draw::{self, EDGES, OUTSIDE};
 use crate::malformed;
 use crate::ops::{self, Op, Role};
 use crate::plan::{self, Aim};
@@ -39,7 +38,7 @@ pub fn bytes() -> Vec<u8> {
 
 fn good(rng: &mut Rng, op: &'static Op) -> Vec<Vec<u8>> {
     let mut asked = boundaries(op);
-    asked.extend(known_intervals(op));
+    asked.extend(known(op));
     for number in refusals::possible(op) {
         asked.extend((0..4).map(|_| plan::aimed(rng, op, Aim::Refusal(number))));
     }
@@ -56,6 +55,10 @@ fn plain(role: Role, first: bool) -> &'static [f64] {
     match role {
         Role::Line | Role::Circle | Role::CircleEnds if first => &[0.0, 1.0],
         Role::Line | Role::Circle | Role::CircleEnds => &[0.5, 2.0],
+        Role::Rect if first => &[0.0, 1.0, 0.0, 1.0],
+        Role::Rect => &[0.5, 1.5, 0.5, 2.0],
+        Role::LatLng | Role::AmountPair => &[0.5, 0.5],
+        Role::VertexNumber => &[2.0],
         Role::LinePoint | Role::CirclePoint | Role::Amount | Role::RemainderArgument => &[0.5],
     }
 }
@@ -67,50 +70,54 @@ fn plain_question(op: &Op) -> Vec<f64> {
 
 /// Each boundary value in one place of a plain question, the places in turn.
 fn boundaries(op: &Op) -> Vec<Vec<f64>> {
-    let plain = plain_question(op);
-    if plain.is_empty() {
-        return Vec::new();
-    }
-    // Four values of each edge: it and its negative, and of these one neighbour each.
+    let places: Vec<usize> = starts(op, |role, _| role != Role::VertexNumber);
+    // Four values of each edge: it and its negative, and of these one neighbour each. A rectangle's
+    // questions are long: they have one of the four, in turn.
     let around = |x: f64| [x, -x, x.next_up(), (-x).next_up()];
-    let edges = EDGES.iter().flat_map(|bits| around(f64::from_bits(*bits)));
-    edges
-        .chain(OUTSIDE.iter().map(|bits| f64::from_bits(*bits)))
-        .enumerate()
-        .map(|(at, x)| {
-            let mut numbers = plain.clone();
-            numbers[at / 4 % plain.len()] = x;
-            numbers
-        })
-        .collect()
+    let long = op.takes.contains(&Role::Rect);
+    let edges = EDGES.iter().flat_map(|bits| around(f64::from_bits(*bits))).enumerate();
+    let chosen = edges.filter(|(at, _)| !long || at % 4 == at / 4 % 4).map(|(_, x)| x);
+    let values: Vec<f64> = chosen.chain(OUTSIDE.iter().map(|bits| f64::from_bits(*bits))).collect();
+    let every = if long { 1 } else { 4 };
+    let put = |(at, x): (usize, &f64)| with(op, places[at / every % places.len()], &[*x]);
+    values.iter().enumerate().filter(|_| !places.is_empty()).map(put).collect()
 }
 
-/// Each circle interval with something special about it in a plain question, the operands in turn.
-fn known_intervals(op: &Op) -> Vec<Vec<f64>> {
-    let plain = plain_question(op);
-    let starts = circle_starts(op);
-    let known = KNOWN.iter().enumerate().filter(|_| !starts.is_empty());
-    known
-        .map(|(at, ends)| {
-            let (mut numbers, start) = (plain.clone(), starts[at % starts.len()]);
-            numbers[start..start + 2].copy_from_slice(&ends.map(f64::from_bits));
-            numbers
-        })
-        .collect()
+/// Circle intervals and rectangles with something special about them, and vertex numbers, each in a
+/// plain question, the operands in turn.
+fn known(op: &Op) -> Vec<Vec<f64>> {
+    let arcs: Vec<[f64; 2]> = draw::circle::KNOWN.iter().map(|ends| ends.map(f64::from_bits)).collect();
+    let numbers: Vec<[f64; 1]> = [0, 1, 2, 3, 4, 7, 127, 128, 254, 255].map(|k| [f64::from(k)]).to_vec();
+    let is_arc = |role, place| match role {
+        Role::Circle | Role::CircleEnds => place == 0,
+        Role::Rect => place == 2,
+        _ => false,
+    };
+    let is_rect = |role, place| role == Role::Rect && place == 0;
+    let is_number = |role, _| role == Role::VertexNumber;
+    [
+        in_turn(op, &arcs, &starts(op, is_arc)),
+        in_turn(op, draw::rect::KNOWN, &starts(op, is_rect)),
+        in_turn(op, &numbers, &starts(op, is_number)),
+    ]
+    .concat()
 }
 
-/// Where the ends of circle intervals stand among the numbers of a question.
-fn circle_starts(op: &Op) -> Vec<usize> {
-    let mut starts = Vec::new();
-    let mut at = 0;
-    for role in op.takes {
-        match role {
-            Role::Circle | Role::CircleEnds => starts.push(at),
-            _ => {}
-        }
-        at += role.width();
-    }
-    starts
+fn in_turn<const WIDTH: usize>(op: &Op, pieces: &[[f64; WIDTH]], starts: &[usize]) -> Vec<Vec<f64>> {
+    let put = |(at, piece): (usize, &[f64; WIDTH])| with(op, starts[at % starts.len()], piece);
+    pieces.iter().enumerate().filter(|_| !starts.is_empty()).map(put).collect()
+}
+
+/// Where such a number stands among the numbers of a question.
+fn starts(op: &Op, is_one: impl Fn(Role, usize) -> bool) -> Vec<usize> {
+    op.places().enumerate().filter(|(_, (role, place))| is_one(*role, *place)).map(|(at, _)| at).collect()
+}
+
+/// A plain question with these numbers in it from `start` on.
+fn with(op: &Op, start: usize, piece: &[f64]) -> Vec<f64> {
+    let mut numbers = plain_question(op);
+    numbers[start..start + piece.len()].copy_from_slice(piece);
+    numbers
 }
 
 /// One malformed line of each kind. NUL and other control bytes are tried by `oracle/edges`, so that

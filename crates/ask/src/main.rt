@@ -2,12 +2,13 @@
 // order. A question is an operation's name and the bit patterns of its operands, an answer the refusal
 // number and the result; a line that is no question is answered `?`.
 //
-// This file has the stream of lines. parse.rt reads a line, a file for each layer (line.rt, circle.rt)
-// has that layer's questions, and print.rt writes an answer (reply.rt) as text.
+// This file has the stream of lines. parse.rt reads a line, a file for each layer (line.rt, circle.rt,
+// rect.rt) has that layer's questions, and print.rt writes an answer (reply.rt) as text.
 mod circle;
 mod line;
 mod parse;
 mod print;
+mod rect;
 mod reply;
 
 use crate::parse::asks;
@@ -138,17 +139,21 @@ fn make_room(at: usize, out: &mut [u8]) -> usize
     at
 }
 
-// The answer to a line.
+// The answer to a line. `rect.vertex` is apart, since its last operand is written in two digits.
 fn answer(s: &[u8]) -> Reply {
     if s.len() > LONGEST {
         return Reply::Unknown;
     }
     let end = parse::name_end(s);
+    let name = &s[..end];
+    if check::same(name, b"rect.vertex") {
+        return rect::vertex(&s[end..]);
+    }
     let mut x = [0.0; parse::MOST];
     let count = parse::numbers(&s[end..], &mut x);
-    let name = &s[..end];
     if asks(name, count, b"remainder", 1) {
         return reply::number(consts::remainder(x[0]));
     }
-    reply::either(line::reply(name, count, x), circle::reply(name, count, x))
+    let intervals = reply::either(line::reply(name, count, x), circle::reply(name, count, x));
+    reply::either(intervals, rect::reply(name, count, x))
 }

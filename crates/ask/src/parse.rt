@@ -1,6 +1,6 @@
 // Reads a line: a name, then numbers, each a single space and the 16 hexadecimal digits of its bit
 // pattern. So it is fixed where each number stands, and a space or a digit too many or too few puts a
-// wrong byte somewhere.
+// wrong byte somewhere. Only a vertex number is written otherwise, in two digits.
 ghost use Prim.Native.Nat.{_+_, _≤_};
 ghost use lib.ListN.{length};
 ghost use Rattle.io.specs.Counts.{Counts};
@@ -12,7 +12,7 @@ pub const MOST: usize = 10;
 pub type Numbers = [f64; MOST];
 
 // A number's bytes: a space and 16 digits.
-const WORD: usize = 17;
+pub const WORD: usize = 17;
 
 // What stands for a byte that is no digit.
 const NO_DIGIT: u8 = 16;
@@ -20,6 +20,12 @@ const NO_DIGIT: u8 = 16;
 // A number as it is read, or that the bytes are none.
 enum Read {
     Of(f64),
+    Bad,
+}
+
+// A vertex number as it is read, or that the bytes are none.
+pub enum Octet {
+    Of(u8),
     Bad,
 }
 
@@ -85,6 +91,25 @@ fn number(s: &[u8], at: usize) -> Read
         i += 1;
     }
     Read::Of(bits::from_pattern(bits))
+}
+
+// Reads a vertex number: a space and two digits, and no byte more.
+pub fn two_digits(s: &[u8]) -> Octet {
+    if s.len() != 3 {
+        return Octet::Bad;
+    }
+    if s[0] != b' ' {
+        return Octet::Bad;
+    }
+    let high = digit(s[1]);
+    if high == NO_DIGIT {
+        return Octet::Bad;
+    }
+    let low = digit(s[2]);
+    if low == NO_DIGIT {
+        return Octet::Bad;
+    }
+    Octet::Of((high << 4) | low)
 }
 
 // The value of a hexadecimal digit of either case.

@@ -28,6 +28,7 @@ fn answer(a: Reply, at: usize, out: &mut [u8]) -> usize
         Reply::Test(n, yes) => mark(sign(yes), refusal(n, at, out), out),
         Reply::One(n, x) => numbers(&[x], refusal(n, at, out), out),
         Reply::Two(n, x, y) => numbers(&[x, y], refusal(n, at, out), out),
+        Reply::Four(n, w, x, y, z) => numbers(&[w, x, y, z], refusal(n, at, out), out),
         Reply::Unbounded(n) => mark(b'U', refusal(n, at, out), out),
     }
 }

@@ -8,6 +8,7 @@ pub enum Reply {
     Test(u8, bool),
     One(u8, f64),
     Two(u8, f64, f64),
+    Four(u8, f64, f64, f64, f64),
     // A distance that is no number.
     Unbounded(u8),
 }

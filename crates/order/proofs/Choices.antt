@@ -96,7 +96,7 @@ zero-is : isZero ZERO ≡ true
 unfolding isZero ofBits
 zero-is = refl
 
-same-test : (s t : Bool) → (s ≡ true → t ≡ true) → (t ≡ true → s ≡ true) → s ≡ t
+pub same-test : (s t : Bool) → (s ≡ true → t ≡ true) → (t ≡ true → s ≡ true) → s ≡ t
 same-test true t f g = sym (f refl)
 same-test false true f g = g refl
 same-test false false f g = refl

@@ -2,6 +2,7 @@ pub mod Readings
 pub mod Trials
 pub mod Held
 pub mod Limits
+pub mod Laws
 pub mod Places
 pub mod Seams
 pub mod Ends

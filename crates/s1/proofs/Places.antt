@@ -1,7 +1,7 @@
 -- The circle interval over places: what document 01 and the comments of s1interval.h say of each operation, for all valid operands, of the answers
 -- themselves. Each follows from Held, at the operands as they are read. Assumes nothing.
 use mathlib.Core.Path.{_≡_, refl, sym, ap, _∙_}
-use mathlib.Core.Bool.{Bool, true, false, not, cond}
+use mathlib.Core.Bool.{Bool, true, false, not}
 use mathlib.Core.Logic.{_⊎_, inl, inr, _↔_}
 use lib.Ieee.{Float, lt, le, eq}
 use Rattle.order.proofs.Ranks.{and-l, and-r, or-at, or-of-l, or-of-r}
@@ -13,13 +13,14 @@ use Rattle.order.specs.Key.{Num}
 use Rattle.consts.proofs.Readings.{plain-num, plain-plain, plain-same}
 use Rattle.consts.proofs.Decisions.{decides}
 use Rattle.s1.specs.declared.interval.Interval.{Interval}
-use Rattle.s1.specs.Circle.{strictlyHasG, ends, distance, seam, pair, full, empty, fast, has, covers, strictlyHas, strictlyCovers, meets, strictlyMeets, hull, overlap, rest, grown, same}
+use Rattle.s1.specs.Circle.{strictlyHasG, seam, pair, full, empty, fast, has, covers, strictlyHas, strictlyCovers, meets, strictlyMeets, hull, overlap, rest, grown, same}
 use Rattle.s1.specs.Reading.{plainEnds, onCircle}
 use Rattle.s1.specs.Answers.{circleAnswer, isValid, isFull, isEmpty, contains, interiorContains, containsInterval, interiorContainsInterval, intersects, interiorIntersects, equal, union, intersection, complement, fromPointPair, add}
 use Rattle.s1.specs.Places.{holds, strictlyHolds, Place, Valid, Inside, StrictlyInside, Meets, StrictlyMeets, Nothing, Everything}
 use Rattle.s1.proofs.Held as held
-use Rattle.s1.proofs.Held.{at-PI, at-num, clash, seam-stays}
-use Rattle.s1.proofs.Limits.{OnCircle, valid-plain, holds-plain, strict-plain, point-plain, strict-point, plain-place, seam-place, seam-plain, one-in, two-in, point-in, read-point, point-out}
+use Rattle.s1.proofs.Held.{at-PI, at-num, clash}
+use Rattle.s1.proofs.Laws as laws
+use Rattle.s1.proofs.Limits.{OnCircle, valid-plain, holds-plain, strict-plain, point-plain, strict-point, plain-place, circle-plain, seam-place, seam-plain, one-in, two-in, point-in, read-point, point-out}
 
 -- ---- an interval and itself as it is read
 module _ {i : Interval} (v : Valid i) {p : Float} {g : Bool} (q : Place p g) where
@@ -220,26 +221,15 @@ module _ (i : Interval) (x : Float) (v : Valid i) where
 
 -- ---- growth and pairs of points, by the place of each point, -PI read as PI
 module _ (i : Interval) (x : Float) (v : Valid i) (q : OnCircle x) where
-  -- growth is that by the point's place
-  at-seam : grown (plainEnds i) (plain x) ≡ grown (plainEnds i) (plain (seam x))
-  unfolding grown
-  at-seam = rw (seam-plain q, seam-stays (plain-place (seam-place q)))
-
-  grown-is : add i x ≡ circleAnswer (grown (plainEnds i) (plain (seam x)))
-  grown-is = add-is i x v q ∙ ap circleAnswer at-seam
-
-  abbrev r : Place (plain (seam x)) false
-  r = plain-place (seam-place q)
-
   pub add-valid : Valid (add i x .value)
-  add-valid = rw grown-is (held.grown-valid (plainEnds i) (plain (seam x)) (valid-plain i v) r)
+  add-valid = rw (add-is i x v q) (laws.grown-valid (valid-plain i v) (circle-plain q))
 
   -- it holds all that was held, and the point
   pub add-holds : Inside (add i x .value) i × (holds (add i x .value) (seam x) false ≡ true)
   add-holds =
-      let e : holds (add i x .value) (plain (seam x)) false ≡ true = rw grown-is (held.grown-holds (plainEnds i) (plain (seam x)) (valid-plain i v) r) in (
-        λ p g s h. rw grown-is (held.grown-inside (plainEnds i) (plain (seam x)) (valid-plain i v) r p g s (to-plain v s h)),
-        sym (point-plain (add i x .value) add-valid (seam x) false (at-num (seam-place q))) ∙ e,
+      let t : holds (grown (plainEnds i) (plain x)) (plain (seam x)) false ≡ true = rw (seam-plain q) at (laws.grown-takes (valid-plain i v) (circle-plain q)) in (
+        λ p g s h. rw (add-is i x v q) (laws.grown-keeps (valid-plain i v) (circle-plain q) p g s (to-plain v s h)),
+        sym (point-plain (add i x .value) add-valid (seam x) false (at-num (seam-place q))) ∙ rw (add-is i x v q) t,
       )
 
 module _ (x y : Float) (q : OnCircle x) (r : OnCircle y) where
@@ -248,38 +238,15 @@ module _ (x y : Float) (q : OnCircle x) (r : OnCircle y) where
   unfolding fromPointPair firstRefusal
   pair-is = simp (read-point x q, read-point y r)
 
-  abbrev X : Float
-  X = plain (seam x)
-
-  abbrev Y : Float
-  Y = plain (seam y)
-
-  ways : pair (plain x) (plain y) ≡ cond (le (distance X Y) PI) (ends X Y) (ends Y X)
-  unfolding pair
-  ways = rw (seam-plain q, seam-plain r)
-
-  abbrev q₁ : Place X false
-  q₁ = plain-place (seam-place q)
-
-  abbrev r₁ : Place Y false
-  r₁ = plain-place (seam-place r)
-
-  by-way : (P : Interval → Type 0) → P (ends X Y) → P (ends Y X) → P (fromPointPair x y .value)
-  by-way P a b = rw (pair-is, ways) (go (le (distance X Y) PI))
-    where
-      go : (t : Bool) → P (cond t (ends X Y) (ends Y X))
-      go true = a
-      go false = b
-
   pub from-point-pair-valid : Valid (fromPointPair x y .value)
-  from-point-pair-valid = by-way Valid (held.between-valid X Y q₁ r₁) (held.between-valid Y X r₁ q₁)
+  from-point-pair-valid = rw pair-is (laws.pair-valid (circle-plain q) (circle-plain r))
 
   -- it holds both points
   pub from-point-pair-holds : (holds (fromPointPair x y .value) (seam x) false ≡ true) × (holds (fromPointPair x y .value) (seam y) false ≡ true)
   from-point-pair-holds =
-      let e = held.between-holds X Y q₁ r₁ in
-      let f = held.between-holds Y X r₁ q₁ in
-      let g = by-way (λ u. (holds u X false ≡ true) × (holds u Y false ≡ true)) e (f .1, f .0) in (
-        sym (point-plain (fromPointPair x y .value) from-point-pair-valid (seam x) false (at-num (seam-place q))) ∙ g .0,
-        sym (point-plain (fromPointPair x y .value) from-point-pair-valid (seam y) false (at-num (seam-place r))) ∙ g .1,
+      let t = laws.pair-holds (circle-plain q) (circle-plain r) in
+      let a : holds (pair (plain x) (plain y)) (plain (seam x)) false ≡ true = rw (seam-plain q) at (t .0) in
+      let b : holds (pair (plain x) (plain y)) (plain (seam y)) false ≡ true = rw (seam-plain r) at (t .1) in (
+        sym (point-plain (fromPointPair x y .value) from-point-pair-valid (seam x) false (at-num (seam-place q))) ∙ rw pair-is a,
+        sym (point-plain (fromPointPair x y .value) from-point-pair-valid (seam y) false (at-num (seam-place r))) ∙ rw pair-is b,
       )

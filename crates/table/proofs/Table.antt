@@ -2,13 +2,19 @@
 -- given by their bits. Assumes nothing.
 use mathlib.Core.Path.{_≡_, refl}
 use lib.Ieee.{Float, binary64, ofBits, lt, le, eq, add, sub}
-use Rattle.consts.specs.Constants.{PI, NEG-PI}
+use Rattle.consts.specs.Constants.{PI, NEG-PI, TWO}
 use Rattle.consts.specs.Answer.{ZERO}
 use Rattle.consts.specs.Reading.{inReach, plain}
 use Rattle.consts.specs.Refusal.{firstRefusal}
 use Rattle.s1.specs.declared.interval.Interval.{Interval}
 use Rattle.s1.specs.Circle.{ends, FULL, EMPTY, distance, seam, valid, full, empty, length, fast, covers, hull, overlap, grown}
 use Rattle.s1.specs.Reading.{readOne, readTwo, onCircle, readPoint}
+use Rattle.s2.specs.declared.rect.Rect.{Rect}
+use Rattle.s2.specs.Rect.{FULL as FULL-RECT}
+use Rattle.s2.specs.Answers.{rectAnswer, vertex, expanded}
+use Rattle.s2.proofs.Examples as examples
+use Rattle.s2.proofs.Examples.{origin}
+use Rattle.s2.proofs.Numbers as numbers
 use Rattle.s1.specs.Answers.{circleAnswer, union, intersection, add as grow}
 
 abbrev ONE : Float
@@ -41,6 +47,10 @@ pub record Table : Type 0 where
   pub grown-seam : grow EMPTY NEG-PI ≡ circleAnswer (at PI)
   -- no point of the circle
   pub grown-refused : grow (ends ZERO ONE) FOUR ≡ record { refusal = 3; value = ends ZERO ONE }
+  -- the rectangle {0} by {0} expanded by 2 and 4
+  pub origin-expanded : expanded origin (record { lat = TWO; lng = FOUR }) ≡ rectAnswer FULL-RECT
+  -- the vertex number is reduced modulo 4
+  pub vertex-255 : (r : Rect) → vertex r 255 ≡ vertex r 3
 
 pub table : Table
 unfolding
@@ -54,4 +64,6 @@ table =
       seam-zero = refl;
       grown-seam = refl;
       grown-refused = refl;
+      origin-expanded = examples.origin-expanded;
+      vertex-255 = numbers.vertex-255;
     }

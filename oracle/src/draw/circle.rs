@@ -82,10 +82,11 @@ fn fresh_interval(rng: &mut Rng) -> [f64; 2] {
 }
 
 /// An interval that has to do with an earlier one: the same, its complement, one that shares an end
-/// or nearly so, its mirror image, the opposite one, one that is a little longer or shorter.
+/// or nearly so, its mirror image, the opposite one, one that is a little longer or shorter, one with
+/// an end on the other side of the seam.
 fn related_interval(rng: &mut Rng, [lo, hi]: [f64; 2]) -> [f64; 2] {
     let x = beside(rng, &[lo, hi]);
-    match rng.below(20) {
+    match rng.below(22) {
         0..=2 => [lo, hi],
         3..=4 => [hi, lo],
         5 => [lo, x],
@@ -103,6 +104,8 @@ fn related_interval(rng: &mut Rng, [lo, hi]: [f64; 2]) -> [f64; 2] {
         }
         16 => [x, x],
         17 => [x, beside(rng, &[lo, hi])],
+        18 => [across(lo), across(hi)],
+        19 => rng.pick(&[EMPTY, FULL]),
         _ => [x, number(rng)],
     }
 }
@@ -144,18 +147,23 @@ fn deciding(rng: &mut Rng, earlier: &[f64]) -> f64 {
     let (lo, hi) = (earlier[0], earlier[1]);
     let length = if hi >= lo { hi - lo } else { hi - lo + TWO_PI };
     let (a, b) = (rng.pick(earlier), rng.pick(earlier));
-    let x = match rng.below(10) {
-        0 => 0.5 * length,
-        1 => 0.5 * (TWO_PI - length),
-        2 => PI - a.abs(),
-        3 => PI + a.abs(),
-        4 => (a - b).abs(),
-        5 => 0.5 * (a - b).abs(),
-        6..=7 => rng.unit() * 0.5 * length,
+    match rng.below(12) {
+        // just empty, just full
+        0 => near(rng, -0.5 * length),
+        1 => near(rng, 0.5 * (TWO_PI - length)),
+        // an end comes to -PI
+        2 => lo + PI,
+        3 => -(hi + PI),
+        4 => neighbour(rng, PI - a.abs()),
+        5 => neighbour(rng, -PI + a.abs()),
+        // how far ends, or halves of lengths, are apart
+        6 => near(rng, (a - b).abs()),
+        7 => near(rng, 0.5 * (a - b).abs()),
+        8 => -(a - b).abs(),
+        // neither
+        9 => -rng.unit() * 0.5 * length,
         _ => rng.unit() * 0.5 * (TWO_PI - length),
-    };
-    let x = near(rng, x);
-    signed(rng, x)
+    }
 }
 
 /// A number up to PI in size by itself.
@@ -193,6 +201,17 @@ fn beside(rng: &mut Rng, earlier: &[f64]) -> f64 {
         9 => a + rng.pick(&[1e-14, -1e-14, 2e-14, -2e-14, 0.25, -0.25]),
         10 => a + rng.unit() * (b - a),
         _ => rng.pick(&[PI, -PI, PI.next_down(), (-PI).next_up()]),
+    }
+}
+
+/// The nearest double on the other side of the seam, for an end at the seam.
+fn across(x: f64) -> f64 {
+    if x >= PI.next_down() {
+        (-PI).next_up()
+    } else if x <= (-PI).next_up() {
+        PI
+    } else {
+        x
     }
 }
 

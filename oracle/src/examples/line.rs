@@ -35,6 +35,7 @@ pub const WORKED: Worked = &[
     ("r1.eq 2.0 1.0 1.0 0.0", "0 1"),
     // the remainder: ties to even, no negative zero, 4 PI is taken and the next double is not
     ("remainder 4022D97C7F3321D2", "0 -PI"),
+    ("remainder C022D97C7F3321D2", "0 PI"),
     ("remainder PI", "0 PI"),
     ("remainder C01921FB54442D18", "0 0.0"),
     ("remainder 402921FB54442D18", "0 0.0"),

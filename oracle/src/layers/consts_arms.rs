@@ -2,9 +2,9 @@
 //! arms of that one for the modulus 2 PI, and every whole number n that can be taken off.
 
 use super::consts::TWO_PI;
-use crate::ops::ArmsOf;
+use crate::ops::Arms;
 
-pub const REMAINDER: (&[&str], ArmsOf) = (
+pub const REMAINDER: Arms = (
     &[
         "zero", "subnormal", "under half of PI", "n 0", "n 1", "n -1", "n 2", "n -2", "tie, n stays 0",
         "tie, n goes to 2", "a multiple of 2 PI",

@@ -3,7 +3,10 @@
 
 pub mod consts;
 pub mod consts_arms;
+pub mod latlng;
 pub mod r1;
 pub mod r1_arms;
+pub mod rect;
+pub mod rect_arms;
 pub mod s1;
 pub mod s1_arms;

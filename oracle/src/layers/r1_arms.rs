@@ -6,10 +6,9 @@
 
 use s2::consts::EPSILON;
 
-use crate::ops::ArmsOf;
+use crate::ops::Arms;
 use crate::refusals;
 
-pub type Arms = (&'static [&'static str], ArmsOf);
 pub type Hit = Vec<&'static str>;
 
 fn empty(lo: f64, hi: f64) -> bool {

@@ -8,7 +8,8 @@ use std::f64::consts::PI;
 
 use s2::consts::{DBL_EPSILON, EPSILON};
 
-use super::r1_arms::{rounded, taken, Arms, Hit};
+use super::r1_arms::{rounded, taken, Hit};
+use crate::ops::Arms;
 
 const TWO_PI: f64 = 2.0 * PI;
 
@@ -28,19 +29,19 @@ impl Arc {
         Arc { lo: n[2], hi: n[3] }
     }
 
-    pub fn empty(self) -> bool {
+    fn empty(self) -> bool {
         self.lo == PI && self.hi == -PI
     }
 
-    pub fn full(self) -> bool {
+    fn full(self) -> bool {
         self.lo == -PI && self.hi == PI
     }
 
-    pub fn inverted(self) -> bool {
+    fn inverted(self) -> bool {
         self.lo > self.hi
     }
 
-    pub fn len(self) -> f64 {
+    fn len(self) -> f64 {
         let length = self.hi - self.lo;
         if length >= 0.0 {
             length
@@ -109,7 +110,8 @@ fn east(a: f64, b: f64) -> f64 {
     }
 }
 
-fn either(first: bool, name: &'static str, other: &'static str) -> &'static str {
+/// One of two names.
+pub fn either(first: bool, name: &'static str, other: &'static str) -> &'static str {
     if first {
         name
     } else {
@@ -420,7 +422,7 @@ pub const UNION: Arms = (
     |n, hit| union(Arc::first(n), Arc::second(n), hit),
 );
 
-pub fn union(own: Arc, other: Arc, hit: &mut Hit) {
+fn union(own: Arc, other: Arc, hit: &mut Hit) {
     let (before, after) = (east(other.hi, own.lo), east(own.hi, other.lo));
     hit.push(match (own.holds(other.lo), own.holds(other.hi)) {
         _ if other.empty() => "other empty",
@@ -452,7 +454,7 @@ pub const INTERSECTION: Arms = (
     |n, hit| intersection(Arc::first(n), Arc::second(n), hit),
 );
 
-pub fn intersection(own: Arc, other: Arc, hit: &mut Hit) {
+fn intersection(own: Arc, other: Arc, hit: &mut Hit) {
     hit.push(match (own.holds(other.lo), own.holds(other.hi)) {
         _ if other.empty() => "other empty",
         (true, true) => taken(
@@ -465,6 +467,11 @@ pub fn intersection(own: Arc, other: Arc, hit: &mut Hit) {
         (false, false) if other.holds(own.lo) => "other holds own",
         (false, false) => "apart",
     });
+}
+
+/// Whether `intersection` gives EMPTY.
+pub fn apart(own: Arc, other: Arc) -> bool {
+    other.empty() || !(own.holds(other.lo) || own.holds(other.hi) || other.holds(own.lo))
 }
 
 /// The crate's last test, whether lo is still -PI, has no arm: hi would have to be PI, and then the test
@@ -492,7 +499,7 @@ pub const EXPANDED: Arms = (
     |n, hit| expanded(Arc::first(n), n[2], hit),
 );
 
-pub fn expanded(own: Arc, margin: f64, hit: &mut Hit) {
+fn expanded(own: Arc, margin: f64, hit: &mut Hit) {
     if margin == 0.0 {
         hit.push("margin 0");
     }
@@ -512,6 +519,16 @@ pub fn expanded(own: Arc, margin: f64, hit: &mut Hit) {
         hit.push(if margin >= 0.0 { "grown" } else { "shrunk" });
         end_moved(own.lo, -margin, ["lo turns", "lo comes to -PI", "lo rounded"], hit);
         end_moved(own.hi, margin, ["hi turns", "hi comes to -PI", "hi rounded"], hit);
+    }
+}
+
+/// Whether `expanded` gives EMPTY.
+pub fn expands_to_empty(own: Arc, margin: f64) -> bool {
+    let moved = own.len() + 2.0 * margin;
+    if margin >= 0.0 {
+        own.empty()
+    } else {
+        !own.full() && moved - 2.0 * DBL_EPSILON <= 0.0
     }
 }
 
@@ -597,7 +614,7 @@ pub const APPROX_EQ: Arms = (APPROX, |n, hit| approx(Arc::first(n), Arc::second(
 pub const APPROX_EQ_BY: Arms = (APPROX, |n, hit| approx(Arc::first(n), Arc::second(n), n[4], hit));
 
 /// The arms of both approximate tests, for the error that is allowed.
-pub fn approx(own: Arc, other: Arc, error: f64, hit: &mut Hit) {
+fn approx(own: Arc, other: Arc, error: f64, hit: &mut Hit) {
     let short = |arc: Arc| arc.len() < 2.0 * error;
     let long = |arc: Arc| arc.len() >= 2.0 * (PI - error);
     if own.empty() {
@@ -637,7 +654,7 @@ pub const ADD: Arms =
         add(Arc::first(n), seam_as_pi(n[2]), hit);
     });
 
-pub fn add(own: Arc, p: f64, hit: &mut Hit) {
+fn add(own: Arc, p: f64, hit: &mut Hit) {
     let (before, after) = (east(p, own.lo), east(own.hi, p));
     hit.push(if own.holds(p) {
         "held"

@@ -1,0 +1,13 @@
+pub mod Readings
+pub mod Accepted
+pub mod Latitudes
+pub mod Clamps
+pub mod Circles
+pub mod Valid
+pub mod Places
+pub mod Numbers
+pub mod Singles
+pub mod Interiors
+pub mod Zeros
+pub mod Differences
+pub mod Examples

@@ -1,0 +1,302 @@
+-- Reading the operands of a rectangle's operation: operands within the limits are accepted, with their zeros read, which changes no place that they hold;
+-- the first operand that is out of reach, or in reach and not valid, decides otherwise. Assumes nothing.
+use mathlib.Core.Path.{_≡_, refl, sym, _∙_}
+use mathlib.Core.Bool.{Bool, true, false, _&&_, cond, false≢true}
+use lib.Ieee.{Float, binary64, ofBits, fits, lt, le, eq}
+use Rattle.order.specs.Key.{Num, Real}
+use Rattle.order.proofs.Ranks.{and-l, and-r, and-of}
+use Rattle.order.proofs.Bounds.{Between, between, widen}
+use Rattle.order.proofs.Monotone.{real-num}
+use Rattle.consts.specs.Constants.{PI, NEG-PI}
+use Rattle.consts.specs.Refusal.{number, accepted, outOfReach, notValid, badPoint, badMargin, firstRefusal}
+use Rattle.consts.specs.Reading.{inReach, readNumber, LEAST, MOST}
+use Rattle.consts.proofs.Readings.{plain-fits, plain-num, plain-reach, plain-le, le-plain, plain-lt, lt-plain, plain-eq, eq-plain}
+use Rattle.r1.specs.declared.interval.Interval.{Interval as Line}
+use Rattle.r1.specs.Line as line
+use Rattle.r1.specs.Line.{holds as latHolds, strictlyHolds as latStrictlyHolds}
+use Rattle.r1.specs.Reading.{plainEnds as linePlain}
+use Rattle.r1.specs.Places.{Place as LatPlace, InReach as LatReach}
+use Rattle.r1.proofs.Readings.{place-num, reach-plain, holds-plain, strict-plain}
+use Rattle.s1.specs.declared.interval.Interval.{Interval as Circle}
+use Rattle.s1.specs.Circle as circle
+use Rattle.s1.specs.Reading.{onCircle, plainEnds as circlePlain}
+use Rattle.s1.specs.Places.{Place as LngPlace, Valid as LngValid, holds as lngHolds, strictlyHolds as lngStrictlyHolds}
+use Rattle.s1.proofs.Readings.{num-of, circle-reach, valid-on}
+use Rattle.s1.proofs.Held.{num-PI, num-NEG, lo-num, hi-num, at-num}
+use Rattle.s1.proofs.Limits.{valid-plain}
+use Rattle.s2.specs.declared.latlng.LatLng.{LatLng}
+use Rattle.s2.specs.declared.rect.Rect.{Rect}
+use Rattle.s2.specs.Rect.{NORTH, SOUTH, latitude, validPoint, valid}
+use Rattle.s2.specs.Reading.{rectInReach, asRead, plainPoint, readOne, readTwo, readPoint, readMargins, readWithPoint, readWithMargins}
+use Rattle.s2.specs.Places.{Place, Valid, ValidPoint, Margins, holds}
+
+-- ---- what is valid is in reach
+pub poles : (Real SOUTH ≡ true) × (Real NORTH ≡ true)
+unfolding fits ofBits
+poles = (refl, refl)
+
+pub latitude-between : (x : Float) → fits binary64 x ≡ true → latitude x ≡ true → Between SOUTH NORTH x
+unfolding latitude
+latitude-between x f h = between SOUTH NORTH x (poles .0) (poles .1) f (and-l (le SOUTH x) (le x NORTH) h) (and-r (le SOUTH x) (le x NORTH) h)
+
+pub latitude-reach : (x : Float) → fits binary64 x ≡ true → latitude x ≡ true → inReach x ≡ true
+unfolding inReach fits ofBits lt le eq
+latitude-reach x f h = let b = widen LEAST MOST (latitude-between x f h) refl in and-of (b .low) (b .high)
+
+-- a valid rectangle is in reach where its lat.hi is
+pub valid-reach : (r : Rect)
+    → fits binary64 (r .lat .lo) ≡ true
+    → fits binary64 (r .lng .lo) ≡ true
+    → fits binary64 (r .lng .hi) ≡ true
+    → valid r ≡ true
+    → inReach (r .lat .hi) ≡ true
+    → rectInReach r ≡ true
+unfolding valid rectInReach
+valid-reach r f g h v k =
+    let a : latitude (r .lat .lo) ≡ true = search (and-l, and-r) in
+    let c : circle.valid (r .lng) ≡ true = search (and-l, and-r) in
+    let on = valid-on (r .lng) c in
+    and-of (and-of (and-of (latitude-reach (r .lat .lo) f a) k) (circle-reach (r .lng .lo) g (on .0))) (circle-reach (r .lng .hi) h (on .1))
+
+-- in reach, a rectangle that is not accepted is not valid
+pub only-valid : (r : Rect) → valid r && inReach (r .lat .hi) ≡ false → rectInReach r ≡ true → valid r ≡ false
+unfolding rectInReach
+only-valid r h k =
+    let e : inReach (r .lat .hi) ≡ true = search (and-l, and-r) in
+    drop (valid r) (inReach (r .lat .hi)) e h
+  where
+    drop : (a b : Bool) → b ≡ true → a && b ≡ false → a ≡ false
+    drop true b e h = rw e at h
+    drop false b e h = refl
+
+pub reach-of : {r : Rect} → Valid r → rectInReach r ≡ true
+reach-of {r} v = valid-reach r (v .lat-reach .lo-place .is-double) (v .lng-valid .lo-double) (v .lng-valid .hi-double) (v .is-valid) (v .lat-reach .hi-place .in-reach)
+
+-- ---- within the limits
+module _ (r : Rect) (v : Valid r) where
+  pub one-in : readOne r ≡ record { refusal = number accepted; value = asRead r }
+  unfolding readOne
+  one-in = simp (reach-of v, v .is-valid)
+
+  pub two-in : (o : Rect) → Valid o → readTwo r o ≡ record { refusal = number accepted; left = asRead r; right = asRead o }
+  unfolding readTwo readOne firstRefusal
+  two-in o w = simp (reach-of v, v .is-valid, reach-of w, w .is-valid)
+
+pub point-in : (p : LatLng) → ValidPoint p → readPoint p ≡ record { refusal = number accepted; value = plainPoint p }
+unfolding readPoint
+point-in p q = simp (q .is-valid)
+
+pub margins-in : (m : LatLng) → Margins m → readMargins m ≡ record { refusal = number accepted; value = plainPoint m }
+unfolding readMargins readNumber firstRefusal
+margins-in m n = simp (n .lat-in-reach, n .lng-in-reach)
+
+module _ (r : Rect) (v : Valid r) where
+  pub with-point-in : (p : LatLng) → ValidPoint p → readWithPoint r p ≡ record { refusal = number accepted; value = asRead r; beside = plainPoint p }
+  unfolding readWithPoint firstRefusal
+  with-point-in p q = simp (one-in r v, point-in p q)
+
+  pub with-margins-in : (m : LatLng) → Margins m → readWithMargins r m ≡ record { refusal = number accepted; value = asRead r; beside = plainPoint m }
+  unfolding readWithMargins firstRefusal
+  with-margins-in m n = simp (one-in r v, margins-in m n)
+
+-- ---- refused: a number out of reach
+module _ (r : Rect) (h : rectInReach r ≡ false) where
+  pub one-out : readOne r .refusal ≡ number outOfReach
+  unfolding readOne
+  one-out = simp h
+
+  -- the left operand decides, whatever stands beside it
+  pub two-out : (o : Rect) → readTwo r o .refusal ≡ number outOfReach
+  unfolding readTwo readOne firstRefusal
+  two-out o = simp h
+
+  pub with-point-out : (p : LatLng) → readWithPoint r p .refusal ≡ number outOfReach
+  unfolding readWithPoint readOne firstRefusal
+  with-point-out p = simp h
+
+  pub with-margins-out : (m : LatLng) → readWithMargins r m .refusal ≡ number outOfReach
+  unfolding readWithMargins readOne firstRefusal
+  with-margins-out m = simp h
+
+-- refused: in reach, and not valid
+module _ (r : Rect) (k : rectInReach r ≡ true) (h : valid r ≡ false) where
+  pub one-not-valid : readOne r .refusal ≡ number notValid
+  unfolding readOne
+  one-not-valid = simp (k, h)
+
+  pub two-not-valid : (o : Rect) → readTwo r o .refusal ≡ number notValid
+  unfolding readTwo readOne firstRefusal
+  two-not-valid o = simp (k, h)
+
+  pub with-point-not-valid : (p : LatLng) → readWithPoint r p .refusal ≡ number notValid
+  unfolding readWithPoint readOne firstRefusal
+  with-point-not-valid p = simp (k, h)
+
+  pub with-margins-not-valid : (m : LatLng) → readWithMargins r m .refusal ≡ number notValid
+  unfolding readWithMargins readOne firstRefusal
+  with-margins-not-valid m = simp (k, h)
+
+-- then the right rectangle, the point, and the margins
+pub two-right : (r o : Rect) → Valid r → readTwo r o .refusal ≡ readOne o .refusal
+unfolding readTwo firstRefusal
+two-right r o v = simp (one-in r v)
+
+pub point-bad : (p : LatLng) → validPoint p ≡ false → readPoint p .refusal ≡ number badPoint
+unfolding readPoint
+point-bad p h = simp h
+
+pub with-point-bad : (r : Rect) (p : LatLng) → Valid r → validPoint p ≡ false → readWithPoint r p .refusal ≡ number badPoint
+unfolding readWithPoint firstRefusal
+with-point-bad r p v h = simp (one-in r v, point-bad p h)
+
+first-bad : (a b : Bool) → a && b ≡ false → firstRefusal (cond a (number accepted) (number badMargin)) (cond b (number accepted) (number badMargin)) ≡ number badMargin
+unfolding firstRefusal
+first-bad false b h = refl
+first-bad true false h = refl
+first-bad true true h = absurd (false≢true (sym h))
+
+pub margins-bad : (m : LatLng) → inReach (m .lat) && inReach (m .lng) ≡ false → readMargins m .refusal ≡ number badMargin
+unfolding readMargins readNumber
+margins-bad m h = first-bad (inReach (m .lat)) (inReach (m .lng)) h
+
+pub with-margins-bad : (r : Rect) (m : LatLng) → Valid r → inReach (m .lat) && inReach (m .lng) ≡ false → readWithMargins r m .refusal ≡ number badMargin
+unfolding readWithMargins firstRefusal
+with-margins-bad r m v h = simp (one-in r v, margins-bad m h)
+
+-- ---- what is read holds the same places
+-- a valid interval's ends are numbers
+pub lng-nums : {i : Circle} → LngValid i → (Num (i .lo) ≡ true) × (Num (i .hi) ≡ true)
+lng-nums v = (lo-num v, hi-num v)
+
+pub pi-nums : (Num NEG-PI ≡ true) × (Num PI ≡ true)
+pi-nums = (num-NEG, num-PI)
+
+module _ {i : Circle} (v : LngValid i) where
+  pub lng-valid-same : circle.valid (circlePlain i) ≡ circle.valid i
+  unfolding circle.valid
+  lng-valid-same =
+      let a = lng-nums v .0 in
+      let b = lng-nums v .1 in
+      let n = pi-nums .0 in
+      let p = pi-nums .1 in
+      simp (plain-le, le-plain, plain-eq)
+
+  pub lng-empty-plain : circle.empty (circlePlain i) ≡ circle.empty i
+  unfolding circle.empty
+  lng-empty-plain =
+      let a = lng-nums v .0 in
+      let b = lng-nums v .1 in
+      let n = pi-nums .0 in
+      let p = pi-nums .1 in
+      simp plain-eq
+
+  pub lng-valid-plain : LngValid (circlePlain i)
+  lng-valid-plain = valid-plain i v
+
+pole-nums : (Num SOUTH ≡ true) × (Num NORTH ≡ true)
+pole-nums = (real-num SOUTH (poles .0), real-num NORTH (poles .1))
+
+pub lat-empty-plain : {i : Line} → LatReach i → line.empty (linePlain i) ≡ line.empty i
+unfolding line.empty
+lat-empty-plain v =
+    let a = place-num (v .lo-place) in
+    let b = place-num (v .hi-place) in
+    let c = plain-num _ a in
+    simp (plain-lt, lt-plain)
+
+module _ {r : Rect} (v : Valid r) where
+  valid-same : valid (asRead r) ≡ valid r
+  unfolding asRead valid latitude
+  valid-same =
+      let a = place-num (v .lat-reach .lo-place) in
+      let b = place-num (v .lat-reach .hi-place) in
+      let n = pole-nums .0 in
+      let p = pole-nums .1 in
+      simp (plain-le, le-plain, lat-empty-plain (v .lat-reach), lng-empty-plain (v .lng-valid), lng-valid-same (v .lng-valid))
+
+  pub valid-read : Valid (asRead r)
+  unfolding asRead
+  valid-read = record { lat-reach = reach-plain (v .lat-reach); lng-valid = lng-valid-plain (v .lng-valid); is-valid = valid-same ∙ v .is-valid }
+
+-- a longitude place is a number
+pub lng-place-num : {at : Float} {g : Bool} → LngPlace at g → Num at ≡ true
+lng-place-num q = at-num q
+
+-- a latitude is a place of the line
+pub lat-place : {x at : Float} {g : Bool} → Place x at g → LatPlace x
+lat-place {x} q = record { is-double = q .is-double; in-reach = latitude-reach x (q .is-double) (q .is-latitude) }
+
+lng-plain : (i : Circle) → LngValid i → (at : Float) (g : Bool) → LngPlace at g → lngHolds (circlePlain i) at g ≡ lngHolds i at g
+lng-plain i v at g q =
+    let a = lng-nums v .0 in
+    let b = lng-nums v .1 in
+    let n = pi-nums .0 in
+    let p = pi-nums .1 in
+    let m = lng-place-num q in
+    let c = plain-num (i .lo) a in
+    simp (plain-le, le-plain, plain-lt, lt-plain, plain-eq)
+
+lng-strict-plain : (i : Circle) → LngValid i → (at : Float) (g : Bool) → LngPlace at g → lngStrictlyHolds (circlePlain i) at g ≡ lngStrictlyHolds i at g
+lng-strict-plain i v at g q =
+    let a = lng-nums v .0 in
+    let b = lng-nums v .1 in
+    let n = pi-nums .0 in
+    let p = pi-nums .1 in
+    let m = lng-place-num q in
+    let c = plain-num (i .lo) a in
+    simp (plain-le, le-plain, plain-lt, lt-plain, plain-eq, eq-plain)
+
+-- the parts of a rectangle as it is read hold what they held, and so does the rectangle
+module _ (r : Rect) (v : Valid r) where
+  pub lat-read : (x : Float) → LatPlace x → latHolds (asRead r .lat) x ≡ latHolds (r .lat) x
+  unfolding asRead
+  lat-read x q = holds-plain (r .lat) (v .lat-reach) x q
+
+  pub lng-read : (at : Float) (g : Bool) → LngPlace at g → lngHolds (asRead r .lng) at g ≡ lngHolds (r .lng) at g
+  unfolding asRead
+  lng-read at g q = lng-plain (r .lng) (v .lng-valid) at g q
+
+  pub holds-read : (x at : Float) (g : Bool) → Place x at g → holds (asRead r) x at g ≡ holds r x at g
+  holds-read x at g q = simp (lat-read x (lat-place q), lng-read at g (q .lng-place))
+
+  -- and what lies strictly inside lay so
+  pub lat-strict-read : (x : Float) → LatPlace x → latStrictlyHolds (asRead r .lat) x ≡ latStrictlyHolds (r .lat) x
+  unfolding asRead
+  lat-strict-read x q = strict-plain (r .lat) (v .lat-reach) x q
+
+  pub lng-strict-read : (at : Float) (g : Bool) → LngPlace at g → lngStrictlyHolds (asRead r .lng) at g ≡ lngStrictlyHolds (r .lng) at g
+  unfolding asRead
+  lng-strict-read at g q = lng-strict-plain (r .lng) (v .lng-valid) at g q
+
+-- a point, and margins, as they are read
+module _ {p : LatLng} (q : ValidPoint p) where
+  point-nums : (Num (p .lat) ≡ true) × (Num (p .lng) ≡ true)
+  unfolding validPoint onCircle
+  point-nums =
+      let a : latitude (p .lat) ≡ true = search (and-l, q .is-valid) in
+      let b : le NEG-PI (p .lng) ≡ true = search (and-l, and-r, q .is-valid) in
+      (real-num (p .lat) (latitude-between (p .lat) (q .lat-double) a .real), num-of (p .lng) (q .lng-double) b)
+
+  pub valid-point-plain : ValidPoint (plainPoint p)
+  unfolding validPoint latitude onCircle
+  valid-point-plain =
+      let a = point-nums .0 in
+      let b = point-nums .1 in
+      let s = pole-nums .0 in
+      let n = pole-nums .1 in
+      let w = pi-nums .0 in
+      let e = pi-nums .1 in
+      record {
+        lat-double = plain-fits (p .lat) (q .lat-double);
+        lng-double = plain-fits (p .lng) (q .lng-double);
+        is-valid = simp (plain-le, le-plain) (q .is-valid);
+      }
+
+pub margins-plain : {m : LatLng} → Margins m → Margins (plainPoint m)
+margins-plain {m} n =
+    record {
+      lat-double = plain-fits (m .lat) (n .lat-double);
+      lng-double = plain-fits (m .lng) (n .lng-double);
+      lat-in-reach = plain-reach (m .lat) (n .lat-in-reach);
+      lng-in-reach = plain-reach (m .lng) (n .lng-in-reach);
+    }

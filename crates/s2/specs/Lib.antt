@@ -1,0 +1,4 @@
+pub mod Rect
+pub mod Reading
+pub mod Answers
+pub mod Places

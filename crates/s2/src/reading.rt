@@ -1,0 +1,161 @@
+// How the operands of a rectangle's operations are read, in the order of document 01: the rectangles
+// from left to right, then points, then margins, sizes or errors. Zeros are read on the way.
+use crate::latlng::LatLng;
+use crate::rect::Rect;
+use crate::sphere;
+use consts::ACCEPTED;
+use consts::BAD_MARGIN;
+use consts::BAD_POINT;
+use consts::NOT_VALID;
+use consts::OUT_OF_REACH;
+use r1::interval::Interval as Line;
+use s1::interval::Interval as Circle;
+ghost use mathlib.Core.Path.{_≡_};
+ghost use Rattle.s2.specs.Reading.{rectInReach, readOne, readTwo, readPoint, readMargins, readWithPoint, readWithMargins};
+
+// A rectangle as it is read.
+pub struct One {
+    pub refusal: u8,
+    pub value: Rect,
+}
+
+// Two rectangles as they are read.
+pub struct Two {
+    pub refusal: u8,
+    pub left: Rect,
+    pub right: Rect,
+}
+
+// A point, or two margins, as they are read.
+pub struct Pair {
+    pub refusal: u8,
+    pub value: LatLng,
+}
+
+// A rectangle and a point or two margins, as they are read.
+pub struct With {
+    pub refusal: u8,
+    pub value: Rect,
+    pub beside: LatLng,
+}
+
+// Whether all four numbers are in reach.
+fn in_reach(r: Rect) -> bool
+    ensures { λ b. ⌜ b ≡ rectInReach r ⌝ }
+{
+    consts::in_reach(r.lat.lo)
+        & consts::in_reach(r.lat.hi)
+        & consts::in_reach(r.lng.lo)
+        & consts::in_reach(r.lng.hi)
+}
+
+// Why a rectangle is refused, or 0. A valid one is in reach but perhaps for its lat.hi, which has no
+// least value: the others are tested only where it is not valid.
+fn refusal_of(r: Rect) -> u8
+    ensures { λ n. ⌜ n ≡ (readOne r) .refusal ⌝ }
+{
+    if sphere::is_valid(r) & consts::in_reach(r.lat.hi) {
+        return ACCEPTED;
+    }
+    if in_reach(r) {
+        return NOT_VALID;
+    }
+    OUT_OF_REACH
+}
+
+// Reads a rectangle: every operation on one comes through here.
+pub fn read_one(r: Rect) -> One
+    ensures { λ x. ⌜ x ≡ readOne r ⌝ }
+{
+    let refusal = refusal_of(r);
+    let a = consts::zero_read(r.lat.lo);
+    let b = consts::zero_read(r.lat.hi);
+    let c = consts::zero_read(r.lng.lo);
+    let d = consts::zero_read(r.lng.hi);
+    let lat = Line { lo: a, hi: b };
+    let lng = Circle { lo: c, hi: d };
+    let value = Rect { lat, lng };
+    One { refusal, value }
+}
+
+// Reads two rectangles, the left one first.
+pub fn read_two(r: Rect, o: Rect) -> Two
+    ensures { λ x. ⌜ x ≡ readTwo r o ⌝ }
+{
+    let a = read_one(r);
+    let b = read_one(o);
+    let refusal = consts::first_refusal(a.refusal, b.refusal);
+    let left = a.value;
+    let right = b.value;
+    Two {
+        refusal,
+        left,
+        right,
+    }
+}
+
+// Reads a point: every operation on one comes through here.
+pub fn read_point(p: LatLng) -> Pair
+    ensures { λ x. ⌜ x ≡ readPoint p ⌝ }
+{
+    let lat = consts::zero_read(p.lat);
+    let lng = consts::zero_read(p.lng);
+    let value = LatLng { lat, lng };
+    if sphere::is_latlng(p) {
+        Pair {
+            refusal: ACCEPTED,
+            value,
+        }
+    } else {
+        Pair {
+            refusal: BAD_POINT,
+            value,
+        }
+    }
+}
+
+// Reads two margins, sizes or errors, the latitude's and the longitude's.
+pub fn read_margins(m: LatLng) -> Pair
+    ensures { λ x. ⌜ x ≡ readMargins m ⌝ }
+{
+    let a = consts::read_number(m.lat, BAD_MARGIN);
+    let b = consts::read_number(m.lng, BAD_MARGIN);
+    let refusal = consts::first_refusal(a.refusal, b.refusal);
+    let value = LatLng {
+        lat: a.value,
+        lng: b.value,
+    };
+    Pair { refusal, value }
+}
+
+// Reads a rectangle, then a point.
+pub fn read_with_point(r: Rect, p: LatLng) -> With
+    ensures { λ x. ⌜ x ≡ readWithPoint r p ⌝ }
+{
+    let a = read_one(r);
+    let b = read_point(p);
+    let refusal = consts::first_refusal(a.refusal, b.refusal);
+    let value = a.value;
+    let beside = b.value;
+    With {
+        refusal,
+        value,
+        beside,
+    }
+}
+
+// Reads a rectangle, then two margins.
+pub fn read_with_margins(r: Rect, m: LatLng) -> With
+    ensures { λ x. ⌜ x ≡ readWithMargins r m ⌝ }
+{
+    let a = read_one(r);
+    let b = read_margins(m);
+    let refusal = consts::first_refusal(a.refusal, b.refusal);
+    let value = a.value;
+    let beside = b.value;
+    With {
+        refusal,
+        value,
+        beside,
+    }
+}
