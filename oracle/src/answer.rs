@@ -2,6 +2,7 @@
 
 use std::io::{self, BufRead, Write};
 
+use crate::common;
 use crate::differences;
 use crate::lines::Lines;
 use crate::ops::{Op, Value};
@@ -44,6 +45,10 @@ impl Answer {
             Value::Test(true) => text.push_str(" 1"),
             Value::Test(false) => text.push_str(" 0"),
             Value::Unbounded => text.push_str(" U"),
+            Value::Pieces(count, numbers) => {
+                text.push_str(&format!(" {count}"));
+                numbers.iter().for_each(|x| text.push_str(&digits(*x)));
+            }
         }
         text
     }
@@ -57,6 +62,9 @@ fn digits(x: f64) -> String {
 
 /// What the oracle answers to a line, without newlines.
 pub fn answer_line(line: &[u8]) -> String {
+    if let Some(asked) = common::read(line) {
+        return common::answer(&asked).text();
+    }
     match question::read(line) {
         Some(asked) => answer(asked.op, &asked.numbers).text(),
         None => "?".to_string(),

@@ -11,10 +11,11 @@ use crate::question;
 use crate::refusals;
 use crate::rng::Rng;
 
-/// How many remainders, pairs of circle intervals, pairs of rectangles, and questions of validity.
+/// How many remainders, pairs of circle intervals, pairs of rectangles, lists, and questions of validity.
 const REMAINDERS: usize = 1_000_000;
 const CIRCLE_PAIRS: usize = 200_000;
 const RECT_PAIRS: usize = 100_000;
+const LISTS: usize = 50_000;
 const VALIDITY_TESTS: usize = 200_000;
 
 /// Prints what is wrong; gives the number of faults.
@@ -26,6 +27,7 @@ pub fn run() -> usize {
         ("tests of validity against the crate's", VALIDITY_TESTS, validity_tests()),
         ("pairs of circle intervals against places", CIRCLE_PAIRS, places::circle::faults(CIRCLE_PAIRS)),
         ("pairs of rectangles against places", RECT_PAIRS, places::rect::faults(RECT_PAIRS)),
+        ("lists of rectangles against places", LISTS, places::common::faults(LISTS)),
     ]
     .into_iter()
     .map(|(what, count, wrong)| {

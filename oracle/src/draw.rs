@@ -2,6 +2,7 @@
 //! in a relation to the earlier ones of the same question, so that ties and near misses are common.
 
 pub mod circle;
+pub mod list;
 pub mod rect;
 
 use std::f64::consts::PI;

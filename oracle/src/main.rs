@@ -3,6 +3,7 @@
 
 mod answer;
 mod check;
+mod common;
 mod differences;
 mod draw;
 mod edges;

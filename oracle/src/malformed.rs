@@ -1,5 +1,6 @@
 //! Lines that are no question, of every kind that the protocol names.
 
+use crate::common;
 use crate::draw;
 use crate::ops::{self, Op};
 use crate::question;
@@ -63,15 +64,29 @@ pub fn of_kind(rng: &mut Rng, op: &Op, spoil: Spoil) -> Vec<u8> {
     line
 }
 
+/// A spoilt list.
+pub fn list_of_kind(rng: &mut Rng, spoil: Spoil) -> Vec<u8> {
+    let mut line = common::write(&draw::list::short(rng)).into_bytes();
+    spoil(&mut line, rng);
+    line
+}
+
+/// Whether a line is no question of any kind.
+pub fn is_none(line: &[u8]) -> bool {
+    question::read(line).is_none() && common::read(line).is_none()
+}
+
 /// Any line that is no question.
 pub fn any(rng: &mut Rng) -> Vec<u8> {
     let all: Vec<&Op> = ops::all().collect();
     loop {
         let (_, spoil) = rng.pick(KINDS);
-        let op = rng.pick(&all);
-        let line = of_kind(rng, op, spoil);
+        let line = match rng.below(all.len() + 1) {
+            0 => list_of_kind(rng, spoil),
+            at => of_kind(rng, all[at - 1], spoil),
+        };
         // A spoilt line may by chance be a question again.
-        if question::read(&line).is_none() {
+        if is_none(&line) {
             return line;
         }
     }

@@ -76,6 +76,8 @@ pub enum Value {
     Numbers(Vec<f64>),
     Test(bool),
     Unbounded,
+    /// the count of pieces, and the whole output list
+    Pieces(usize, Vec<f64>),
 }
 
 /// A function that names each arm of the Rust function that the given numbers reach.

@@ -2,6 +2,7 @@
 //! tries on drawn intervals and rectangles. This is written from document 01's section "Places" alone.
 
 pub mod circle;
+pub mod common;
 pub mod rect;
 
 use std::f64::consts::PI;
@@ -13,7 +14,7 @@ use crate::refusals;
 
 /// A place as a whole number, rising from west to east: twice the rank of a double for the double
 /// itself, and one more for the gap just above it.
-type Place = i128;
+pub type Place = i128;
 
 /// The rank of a double among all doubles; both zeros have the same.
 fn rank(x: f64) -> i128 {
@@ -25,8 +26,13 @@ fn rank(x: f64) -> i128 {
     }
 }
 
-fn at(x: f64) -> Place {
+pub fn at(x: f64) -> Place {
     2 * rank(x)
+}
+
+/// The gap just above a double.
+pub fn above(x: f64) -> Place {
+    at(x) + 1
 }
 
 /// The place of a point of the circle: -PI is the place PI.
@@ -36,7 +42,7 @@ fn place_of(p: f64) -> Place {
 
 /// The first place, the gap just above -PI, and the last, PI.
 fn first() -> Place {
-    at(-PI) + 1
+    above(-PI)
 }
 
 fn last() -> Place {
@@ -44,14 +50,14 @@ fn last() -> Place {
 }
 
 /// A circle interval.
-type Arc = [f64; 2];
+pub type Arc = [f64; 2];
 
 fn is_full([lo, hi]: Arc) -> bool {
     lo == -PI && hi == PI
 }
 
 /// The places met going east from lo to hi, ends included; FULL holds all, EMPTY none.
-fn holds([lo, hi]: Arc, place: Place) -> bool {
+pub fn holds([lo, hi]: Arc, place: Place) -> bool {
     if lo <= hi {
         at(lo) <= place && place <= at(hi)
     } else {

@@ -2,6 +2,7 @@
 //! every arm of the Rust function, yes and no are reached many times whatever the seed.
 
 use crate::answer::answer;
+use crate::common::{self, Asked};
 use crate::draw;
 use crate::malformed;
 use crate::ops::{self, Arm, Gives, Op, Role, Value};
@@ -93,15 +94,53 @@ pub fn aimed(rng: &mut Rng, op: &Op, aim: Aim) -> Vec<f64> {
     drawn
 }
 
+/// A list at this place of the questions: one in 200 is long, and of eight short ones one is aimed at a
+/// refusal and three at an arm.
+fn list_at(rng: &mut Rng, place: usize) -> Asked {
+    let (round, slot) = (place / 8, place % 8);
+    match slot {
+        _ if place % 200 == 199 => draw::list::long(rng),
+        0 => aimed_list(rng, Aim::Refusal(common::REFUSALS[round % common::REFUSALS.len()])),
+        1..=3 => aimed_list(rng, Aim::Arm(common::AIMS[(round * 3 + slot - 1) % common::AIMS.len()])),
+        _ => draw::list::short(rng),
+    }
+}
+
+/// Draws short lists until the aim is reached.
+pub fn aimed_list(rng: &mut Rng, aim: Aim) -> Asked {
+    let reached = |asked: &Asked| match aim {
+        Aim::Refusal(wanted) => common::refusal(asked) == wanted,
+        Aim::Arm(wanted) => common::arms_reached(asked).contains(&wanted),
+        Aim::Anything | Aim::Test(_) => true,
+    };
+    let mut asked = draw::list::short(rng);
+    for _ in 0..2_000 {
+        if reached(&asked) {
+            break;
+        }
+        asked = draw::list::short(rng);
+    }
+    asked
+}
+
 /// The question as a line, now and then in lower or mixed case: digits of either case are read.
 pub fn written(rng: &mut Rng, op: &Op, numbers: &[f64]) -> Vec<u8> {
-    let mut line = question::write(op, numbers).into_bytes();
+    in_some_case(rng, question::write(op, numbers), op.name)
+}
+
+/// The same for a list.
+pub fn written_list(rng: &mut Rng, asked: &Asked) -> Vec<u8> {
+    in_some_case(rng, common::write(asked), common::NAME)
+}
+
+fn in_some_case(rng: &mut Rng, line: String, name: &str) -> Vec<u8> {
+    let mut line = line.into_bytes();
     let lower = match rng.below(20) {
         0 => 100,
         1 => 50,
         _ => 0,
     };
-    for byte in &mut line[op.name.len()..] {
+    for byte in &mut line[name.len()..] {
         if rng.percent(lower) {
             *byte = byte.to_ascii_lowercase();
         }
@@ -109,7 +148,7 @@ pub fn written(rng: &mut Rng, op: &Op, numbers: &[f64]) -> Vec<u8> {
     line
 }
 
-/// Hands `count` questions of every operation to `put`, then malformed lines.
+/// Hands `count` questions of every operation and as many lists to `put`, then malformed lines.
 pub fn questions(count: usize, seed: u64, put: &mut dyn FnMut(&[u8])) {
     for op in ops::all() {
         let mut rng = Rng::new(seed, op.name);
@@ -117,6 +156,11 @@ pub fn questions(count: usize, seed: u64, put: &mut dyn FnMut(&[u8])) {
             let drawn = aimed(&mut rng, op, aim_at(op, place));
             put(&written(&mut rng, op, &drawn));
         }
+    }
+    let mut rng = Rng::new(seed, common::NAME);
+    for place in 0..count {
+        let asked = list_at(&mut rng, place);
+        put(&written_list(&mut rng, &asked));
     }
     let mut rng = Rng::new(seed, "malformed");
     for _ in 0..(count / 10).max(500) {

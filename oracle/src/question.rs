@@ -25,7 +25,7 @@ pub fn read(line: &[u8]) -> Option<Question> {
         let word = words.next()?;
         numbers.push(match role {
             Role::VertexNumber => digits(word, 2)? as f64,
-            _ => f64::from_bits(digits(word, 16)?),
+            _ => number(word)?,
         });
     }
     match words.next() {
@@ -34,8 +34,12 @@ pub fn read(line: &[u8]) -> Option<Question> {
     }
 }
 
-/// A whole number in just so many hexadecimal digits of either case. A double is written as its bit
-/// pattern in 16.
+/// A double: its bit pattern in 16 digits.
+pub fn number(word: &[u8]) -> Option<f64> {
+    digits(word, 16).map(f64::from_bits)
+}
+
+/// A whole number in just so many hexadecimal digits of either case.
 fn digits(word: &[u8], count: usize) -> Option<u64> {
     if word.len() != count {
         return None;

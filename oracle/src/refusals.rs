@@ -19,6 +19,8 @@ pub const OUT_OF_REACH: u8 = 1;
 pub const NOT_VALID: u8 = 2;
 pub const BAD_POINT: u8 = 3;
 pub const BAD_AMOUNT: u8 = 4;
+pub const BAD_LENGTH: u8 = 5;
+pub const NO_ROOM: u8 = 6;
 
 /// No NaN, and of a size that the port takes. (A comparison with a NaN is false.)
 pub fn in_reach(x: f64) -> bool {
@@ -55,7 +57,7 @@ pub fn rect_is_valid(lat_lo: f64, lat_hi: f64, lng_lo: f64, lng_hi: f64) -> bool
 }
 
 /// The number that this operand by itself is refused with, or 0.
-fn fault(role: Role, n: &[f64]) -> u8 {
+pub fn fault(role: Role, n: &[f64]) -> u8 {
     let all_in_reach = n.iter().all(|x| in_reach(*x));
     let all_small = n.iter().enumerate().all(|(place, x)| x.abs() <= largest(role, place));
     match role {

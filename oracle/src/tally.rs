@@ -6,6 +6,7 @@ use std::f64::consts::{FRAC_PI_2, PI};
 use std::fs::File;
 use std::io::{self, BufReader};
 
+use crate::common::{self, Asked};
 use crate::differences;
 use crate::lines::Lines;
 use crate::ops::{self, Arm, Gives, Op};
@@ -75,6 +76,13 @@ impl Row {
         }
     }
 
+    /// Counts what a list reaches.
+    fn add_list(&mut self, asked: &Asked) {
+        for arm in common::arms_reached(asked) {
+            *self.arms.entry(arm).or_default() += 1;
+        }
+    }
+
     /// Counts what an accepted question reaches in the crate.
     fn add_reached(&mut self, op: &Op, numbers: &[f64]) {
         for arm in plan::arms_reached(op, numbers) {
@@ -102,13 +110,54 @@ fn shown(line: Option<&[u8]>) -> String {
     }
 }
 
-/// The counts of a whole run: a row for each operation, in port order, and one for malformed lines.
-pub struct Tally {
-    rows: Vec<(&'static str, Option<&'static Op>, Row)>,
-    extra_lines: usize,
+/// What a row of the tally is about.
+#[derive(Clone, Copy)]
+enum About {
+    Op(&'static Op),
+    Common,
+    Malformed,
 }
 
-const MALFORMED: &str = "(malformed)";
+impl About {
+    fn name(self) -> &'static str {
+        match self {
+            About::Op(op) => op.name,
+            About::Common => common::NAME,
+            About::Malformed => "(malformed)",
+        }
+    }
+
+    /// The refusal numbers that can be given.
+    fn refusals(self) -> Vec<u8> {
+        match self {
+            About::Op(op) => refusals::possible(op),
+            About::Common => common::REFUSALS.to_vec(),
+            About::Malformed => Vec::new(),
+        }
+    }
+
+    fn arms(self) -> Vec<Arm> {
+        match self {
+            About::Op(op) => plan::arms(op),
+            About::Common => common::arms(),
+            About::Malformed => Vec::new(),
+        }
+    }
+
+    fn gives(self) -> Option<Gives> {
+        match self {
+            About::Op(op) => Some(op.gives),
+            About::Common | About::Malformed => None,
+        }
+    }
+}
+
+/// The counts of a whole run: a row for each operation, in port order, one for the lists of `common`,
+/// and one for malformed lines.
+pub struct Tally {
+    rows: Vec<(About, Row)>,
+    extra_lines: usize,
+}
 
 /// A file's lines. The longest line that a door may answer is far below this bound.
 fn open(path: &str) -> io::Result<Lines<BufReader<File>>> {
@@ -117,9 +166,8 @@ fn open(path: &str) -> io::Result<Lines<BufReader<File>>> {
 
 impl Tally {
     fn new() -> Self {
-        let named = ops::all().map(|op| (op.name, Some(op), Row::default()));
-        let rows = named.chain([(MALFORMED, None, Row::default())]).collect();
-        Tally { rows, extra_lines: 0 }
+        let about = ops::all().map(About::Op).chain([About::Common, About::Malformed]);
+        Tally { rows: about.map(|about| (about, Row::default())).collect(), extra_lines: 0 }
     }
 
     /// Reads the questions and both doors' answers, line by line.
@@ -138,28 +186,42 @@ impl Tally {
     }
 
     fn add(&mut self, asked: &[u8], judge: Option<&[u8]>, other: Option<&[u8]>) {
-        let read = question::read(asked);
-        let name = read.as_ref().map_or(MALFORMED, |question| question.op.name);
-        let at = self.rows.iter().position(|row| row.0 == name).expect("every operation has a row");
-        let row = &mut self.rows[at].2;
+        let (list, read) = (common::read(asked), question::read(asked));
+        let about = match (&list, &read) {
+            (Some(_), _) => About::Common,
+            (_, Some(question)) => About::Op(question.op),
+            _ => About::Malformed,
+        };
+        let row = self.row(about);
         row.asked += 1;
-        let Some(question) = read else {
+        let numbers = list.as_ref().map(|list| &list.numbers).or(read.as_ref().map(|read| &read.numbers));
+        let Some(numbers) = numbers else {
             return row.add_answers(asked, judge, other, asked.len());
         };
         if judge == Some(NO_ANSWER) {
             row.lacking += 1;
         } else {
-            row.add_answers(asked, judge, other, weight(&question.numbers));
+            row.add_answers(asked, judge, other, weight(numbers));
         }
-        if refusals::refusal(question.op, &question.numbers) == refusals::ACCEPTED {
-            row.add_reached(question.op, &question.numbers);
+        if let Some(list) = &list {
+            row.add_list(list);
         }
+        if let Some(question) = read {
+            if refusals::refusal(question.op, &question.numbers) == refusals::ACCEPTED {
+                row.add_reached(question.op, &question.numbers);
+            }
+        }
+    }
+
+    fn row(&mut self, about: About) -> &mut Row {
+        let found = self.rows.iter_mut().find(|(other, _)| other.name() == about.name());
+        &mut found.expect("every operation has a row").1
     }
 
     /// The first words of answers that occur and are neither "0" nor "?".
     fn refusals_seen(&self) -> Vec<String> {
         let mut seen: Vec<String> =
-            self.rows.iter().flat_map(|row| row.2.by_refusal.keys().cloned()).collect();
+            self.rows.iter().flat_map(|row| row.1.by_refusal.keys().cloned()).collect();
         seen.sort();
         seen.dedup();
         seen.retain(|number| number != "0" && number != "?");
@@ -168,7 +230,7 @@ impl Tally {
 
     /// Whether the judge lacks an answer to any question.
     fn any_lacking(&self) -> bool {
-        self.rows.iter().any(|row| row.2.lacking > 0)
+        self.rows.iter().any(|row| row.1.lacking > 0)
     }
 
     /// The table, a line an operation.
@@ -180,8 +242,8 @@ impl Tally {
             "{:<30}{:>8}{:>10}{titles}{:>8}{:>8}{:>8}{lacks}{:>8}",
             "operation", "asked", "accepted", "yes", "no", "named", "differ"
         );
-        for (name, op, row) in &self.rows {
-            print_row(name, *op, row, &seen, self.any_lacking());
+        for (about, row) in &self.rows {
+            print_row(*about, row, &seen, self.any_lacking());
             if arms {
                 row.arms.iter().for_each(|(arm, times)| println!("    {times:>8}  {arm}"));
             }
@@ -190,8 +252,8 @@ impl Tally {
 
     /// The simplest differing questions with both answers.
     pub fn print_differing(&self) {
-        for (name, _, row) in self.rows.iter().filter(|row| row.2.differ > 0) {
-            println!("{name}: {} differ; the simplest:", row.differ);
+        for (about, row) in self.rows.iter().filter(|row| row.1.differ > 0) {
+            println!("{}: {} differ; the simplest:", about.name(), row.differ);
             row.shown.iter().for_each(|(_, text)| println!("{text}"));
         }
         if self.extra_lines > 0 {
@@ -200,28 +262,29 @@ impl Tally {
     }
 
     pub fn differing(&self) -> usize {
-        self.rows.iter().map(|row| row.2.differ).sum::<usize>() + self.extra_lines
+        self.rows.iter().map(|row| row.1.differ).sum::<usize>() + self.extra_lines
     }
 
     /// What the questions lack, one line each.
     pub fn shortfalls(&self) -> Vec<String> {
-        let named = |name: &str, lack: String| format!("{name}: {lack}");
+        let named = |about: About, lack: String| format!("{}: {lack}", about.name());
         self.rows
             .iter()
-            .flat_map(|(name, op, row)| lacks(*op, row).into_iter().map(move |lack| named(name, lack)))
+            .flat_map(|(about, row)| lacks(*about, row).into_iter().map(move |lack| named(*about, lack)))
             .collect()
     }
 }
 
-fn print_row(name: &str, op: Option<&Op>, row: &Row, seen: &[String], lacks: bool) {
-    let Some(op) = op else {
+fn print_row(about: About, row: &Row, seen: &[String], lacks: bool) {
+    let name = about.name();
+    if let About::Malformed = about {
         let (asked, no_question, differ) = (row.asked, row.count("?"), row.differ);
         println!("{name}: asked {asked}, answered ? {no_question}, differ {differ}");
         return;
-    };
+    }
     let refused: String = seen.iter().map(|number| format!("{:>9}", row.count(number))).collect();
-    let test = |count: usize| match op.gives {
-        Gives::Test | Gives::Validity => count.to_string(),
+    let test = |count: usize| match about.gives() {
+        Some(Gives::Test | Gives::Validity) => count.to_string(),
         _ => "-".to_string(),
     };
     let lacking = if lacks { format!("{:>8}", row.lacking) } else { String::new() };
@@ -238,33 +301,33 @@ fn print_row(name: &str, op: Option<&Op>, row: &Row, seen: &[String], lacks: boo
 
 /// What the questions of one operation lack: too few accepted, a refusal, an arm, yes or no. Of an
 /// operation that the judge lacks nothing is wanted.
-fn lacks(op: Option<&Op>, row: &Row) -> Vec<String> {
+fn lacks(about: About, row: &Row) -> Vec<String> {
     let mut lacks = Vec::new();
     let mut need = |what: String, have: usize, least: usize| {
         if have < least.max(1) {
             lacks.push(format!("{what}: {have}, at least {} wanted", least.max(1)));
         }
     };
-    let Some(op) = op else {
+    if let About::Malformed = about {
         need("answered ?".to_string(), row.count("?"), row.asked);
         return lacks;
-    };
+    }
     if row.lacking == row.asked && row.asked > 0 {
         return Vec::new();
     }
     let accepted = row.count("0");
     need("accepted".to_string(), accepted, (row.asked * 60).div_ceil(100));
-    for number in refusals::possible(op) {
+    for number in about.refusals() {
         need(format!("refused with {number}"), row.count(&number.to_string()), row.asked / 200);
     }
-    for arm in plan::arms(op) {
+    for arm in about.arms() {
         need(format!("arm '{arm}'"), row.arms.get(&arm).copied().unwrap_or(0), row.asked / 200);
     }
-    if op.gives == Gives::Test {
+    if about.gives() == Some(Gives::Test) {
         need("yes".to_string(), row.yes, accepted.div_ceil(10));
         need("no".to_string(), row.no, accepted.div_ceil(10));
     }
-    let unlisted = row.arms.keys().filter(|arm| !plan::arms(op).contains(arm));
+    let unlisted = row.arms.keys().filter(|arm| !about.arms().contains(arm));
     lacks.extend(unlisted.map(|arm| format!("arm '{arm}' is not in the list of arms")));
     lacks
 }

@@ -1,6 +1,7 @@
 //! The stored questions of the program `ask`: for each operation boundary values in every place,
 //! every refusal and every arm several times, random questions, and malformed lines of every kind.
 
+use crate::common;
 use crate::draw::{self, EDGES, OUTSIDE};
 use crate::malformed;
 use crate::ops::{self, Op, Role};
@@ -24,6 +25,7 @@ pub fn lines() -> Vec<Vec<u8>> {
         lines.extend(good(&mut rng, op));
         lines.extend(bad(&mut rng, op));
     }
+    lines.extend(common::stored::lines(&mut Rng::new(SEED, common::NAME)));
     lines.extend(long_lines());
     // The last line lacks its newline: see `bytes`.
     lines

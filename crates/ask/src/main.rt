@@ -3,8 +3,9 @@
 // number and the result; a line that is no question is answered `?`.
 //
 // This file has the stream of lines. parse.rt reads a line, a file for each layer (line.rt, circle.rt,
-// rect.rt) has that layer's questions, and print.rt writes an answer (reply.rt) as text.
+// rect.rt, common.rt) has that layer's questions, and print.rt writes an answer (reply.rt) as text.
 mod circle;
+mod common;
 mod line;
 mod parse;
 mod print;
@@ -116,13 +117,17 @@ fn take(b: u8, p: Place, text: &mut [u8], out: &mut [u8]) -> Place
     p
 }
 
-// Puts a line's answer after those that wait.
+// Puts a line's answer after those that wait. `common` is apart, since its answer is a list.
 fn answer_line(s: &[u8], at: usize, out: &mut [u8]) -> usize
     requires { ⌜ room ≤ length (now out) ⌝ }
     requires { ⌜ at ≤ length (now out) ⌝ }
     ensures { λ r. ⌜ r ≤ length (now (out .exit)) ⌝ }
 {
     let from = make_room(at, out);
+    let end = parse::name_end(s);
+    if check::same(&s[..end], b"common") {
+        return common::reply(&s[end..], from, out);
+    }
     print::reply(answer(s), from, out)
 }
 

@@ -113,7 +113,7 @@ pub fn two_digits(s: &[u8]) -> Octet {
 }
 
 // The value of a hexadecimal digit of either case.
-fn digit(b: u8) -> u8 {
+pub fn digit(b: u8) -> u8 {
     match b {
         b'0'..=b'9' => b - b'0',
         b'A'..=b'F' => b - b'A' + 10,

@@ -7,7 +7,7 @@ ghost use lib.ListN.{length};
 ghost use Rattle.ask.specs.Room.{room};
 
 // No answer's line has more bytes.
-pub const ROOM: usize = 128;
+pub const ROOM: usize = 36000;
 
 // Puts an answer's line at a place of out, and says where it ends.
 pub fn reply(a: Reply, at: usize, out: &mut [u8]) -> usize
@@ -33,22 +33,40 @@ fn answer(a: Reply, at: usize, out: &mut [u8]) -> usize
     }
 }
 
+// Puts the line of a common region: the refusal, the count of its pieces, and the list that they are in.
+pub fn pieces(n: u8, count: usize, x: &[f64], at: usize, out: &mut [u8]) -> usize
+    requires { ⌜ at + room ≤ length (now out) ⌝ }
+    requires { ⌜ length (now x) ≤ 2052 ⌝ }
+    ensures { λ r. ⌜ r ≤ length (now (out .exit)) ⌝ }
+{
+    let counted = put(b" ", refusal(n, at, out), out);
+    let head = decimal(count as u64, counted, out);
+    let end = numbers(x, head, out);
+    put(b"\n", end, out)
+}
+
 // Puts a refusal number.
 fn refusal(n: u8, at: usize, out: &mut [u8]) -> usize
     requires { ⌜ at + 3 ≤ length (now out) ⌝ }
     ensures { λ r. ⌜ r ≤ at + 3 ⌝ }
 {
+    decimal(n as u64, at, out)
+}
+
+// Puts a number under 1,000 in decimal; no refusal and no count of pieces is greater.
+fn decimal(n: u64, at: usize, out: &mut [u8]) -> usize
+    requires { ⌜ at + 3 ≤ length (now out) ⌝ }
+    ensures { λ r. ⌜ r ≤ at + 3 ⌝ }
+{
+    let ones = digit(n % 10);
     if n < 10 {
-        return put(&[b'0' + n], at, out);
+        return put(&[ones], at, out);
     }
+    let tens = digit(n / 10 % 10);
     if n < 100 {
-        return put(&[b'0' + n / 10, b'0' + n % 10], at, out);
+        return put(&[tens, ones], at, out);
     }
-    put(
-        &[b'0' + n / 100, b'0' + n / 10 % 10, b'0' + n % 10],
-        at,
-        out,
-    )
+    put(&[digit(n / 100 % 10), tens, ones], at, out)
 }
 
 // Puts a space and a letter.

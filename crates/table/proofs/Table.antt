@@ -1,6 +1,7 @@
 -- Document 01's boundary examples marked P: a single table, each line computed, rounding included. Longitudes are in radians; numbers are named here and
 -- given by their bits. Assumes nothing.
 use mathlib.Core.Path.{_≡_, refl}
+use mathlib.Core.List.{[], _∷_}
 use lib.Ieee.{Float, binary64, ofBits, lt, le, eq, add, sub}
 use Rattle.consts.specs.Constants.{PI, NEG-PI, TWO}
 use Rattle.consts.specs.Answer.{ZERO}
@@ -14,7 +15,9 @@ use Rattle.s2.specs.Rect.{FULL as FULL-RECT}
 use Rattle.s2.specs.Answers.{rectAnswer, vertex, expanded}
 use Rattle.s2.proofs.Examples as examples
 use Rattle.s2.proofs.Examples.{origin}
-use Rattle.s2.proofs.Numbers as numbers
+use Rattle.s2.proofs.Numbers as corners
+use Rattle.region.proofs.Examples as regions
+use Rattle.region.proofs.Examples.{zone, NINE, four-nines, Gives}
 use Rattle.s1.specs.Answers.{circleAnswer, union, intersection, add as grow}
 
 abbrev ONE : Float
@@ -49,6 +52,15 @@ pub record Table : Type 0 where
   pub grown-refused : grow (ends ZERO ONE) FOUR ≡ record { refusal = 3; value = ends ZERO ONE }
   -- the rectangle {0} by {0} expanded by 2 and 4
   pub origin-expanded : expanded origin (record { lat = TWO; lng = FOUR }) ≡ rectAnswer FULL-RECT
+  -- common of [-1, 1] and [1, -1]: [-1, -1], [1, 1]
+  pub common-both-ends : Gives (zone 0xBFF0000000000000 0x3FF0000000000000 (zone 0x3FF0000000000000 0xBFF0000000000000 [])) 2
+      (zone 0xBFF0000000000000 0xBFF0000000000000 (zone 0x3FF0000000000000 0x3FF0000000000000 (NINE ∷ [])))
+  -- common of [2, 1] and [0.5, 0.25]: [0.5, 1], then [2, 0.25]
+  pub common-over-the-seam : Gives (zone 0x4000000000000000 0x3FF0000000000000 (zone 0x3FE0000000000000 0x3FD0000000000000 [])) 2
+      (zone 0x3FE0000000000000 0x3FF0000000000000 (zone 0x4000000000000000 0x3FD0000000000000 (NINE ∷ [])))
+  -- common of FULL and [C00921FB54442D17, PI]: the second alone
+  pub common-nearly-full : Gives (zone 0xC00921FB54442D18 0x400921FB54442D18 (zone 0xC00921FB54442D17 0x400921FB54442D18 [])) 1
+      (zone 0xC00921FB54442D17 0x400921FB54442D18 (four-nines (NINE ∷ [])))
   -- the vertex number is reduced modulo 4
   pub vertex-255 : (r : Rect) → vertex r 255 ≡ vertex r 3
 
@@ -65,5 +77,8 @@ table =
       grown-seam = refl;
       grown-refused = refl;
       origin-expanded = examples.origin-expanded;
-      vertex-255 = numbers.vertex-255;
+      common-both-ends = regions.common-regions .both-ends;
+      common-over-the-seam = regions.common-regions .over-the-seam;
+      common-nearly-full = regions.common-regions .nearly-full;
+      vertex-255 = corners.vertex-255;
     }

@@ -84,7 +84,7 @@ fn empty_lat(rng: &mut Rng, earlier: &[f64]) -> [f64; 2] {
 }
 
 /// A latitude that is not empty. `earlier` are the ends of the one before it, or nothing.
-fn lat_interval(rng: &mut Rng, earlier: &[f64]) -> [f64; 2] {
+pub fn lat_interval(rng: &mut Rng, earlier: &[f64]) -> [f64; 2] {
     let drawn = match earlier {
         [lo, hi] => match rng.below(16) {
             0..=3 => [*lo, *hi],

@@ -1,0 +1,152 @@
+-- What follows for every list of valid rectangles: the list found is the one and only common region; nothing is listed exactly when there is no common
+-- place; every piece carries the common latitude band; n rectangles, n at least 1, have at most n pieces; to reorder or to repeat rectangles changes
+-- nothing, in the answer and in the output; and with room for the pieces they are accepted. And for every list: the promise determines the answer and each
+-- number left in the output, and a refusal alters none. Assumes nothing.
+use mathlib.Core.Path.{_≡_, refl, sym, ap, _∙_, subst}
+use mathlib.Core.Bool.{Bool, true, false, cond, false≢true}
+use mathlib.Core.List.{List, [], _∷_}
+use mathlib.Core.Logic.{_↔_}
+use Prim.Native.Nat.{ℕ, suc, _*_, _≤_}
+use native.Mathlib.Omega.{arith}
+use borrow.Author.Tests.{ne-eqb}
+use lib.ListN.{length}
+use lib.Ieee.{Float}
+use Rattle.order.proofs.Ranks.{and-l, and-r, and-of}
+use Rattle.consts.specs.Refusal.{number, accepted, firstRefusal}
+use Rattle.r1.specs.declared.interval.Interval.{Interval as Line}
+use Rattle.r1.specs.Line as line
+use Rattle.s1.specs.declared.interval.Interval.{Interval as Circle}
+use Rattle.s2.specs.declared.rect.Rect.{Rect}
+use Rattle.s2.specs.Rect.{empty}
+use Rattle.s2.specs.Places.{Place, Valid, holds}
+use Rattle.s2.proofs.Readings.{one-in}
+use Rattle.s2.proofs.Places.{own-place, own-held}
+use Rattle.region.specs.declared.region.Pieces.{Pieces}
+use Rattle.region.specs.CommonRegion.{All, inEvery, inSome, CommonRegion}
+use Rattle.region.specs.Clipping.{common}
+use Rattle.region.specs.Region.{band, lngs, across, region}
+use Rattle.region.specs.Answers.{rectsOf, asReadAll, piecesOf, wholeList, firstRefused, refusalOf, answer, left, Promised}
+use Rattle.region.proofs.Entries.{Mem, first, later, both-ways}
+use Rattle.region.proofs.Clipping.{common-few}
+use Rattle.region.proofs.Listed.{same-region, listed-is, valid-read-lngs}
+use Rattle.region.proofs.Unique.{some-of, unique}
+use Rattle.region.proofs.Promises.{length-across, room-enough}
+
+-- ---- the list found is the common region, and nothing else is
+pub listed-exactly : (rs listed : List Rect) → All Valid rs → CommonRegion rs listed ↔ (listed ≡ region (asReadAll rs))
+listed-exactly rs listed v = (
+  λ c. unique rs listed (region (asReadAll rs)) c (listed-is rs v),
+  λ e. subst (λ (l : List Rect). CommonRegion rs l) (sym e) (listed-is rs v),
+)
+
+-- ---- nothing is listed exactly when there is no common place
+pub none-listed : (rs listed : List Rect) → CommonRegion rs listed → (listed ≡ []) ↔ ((x at : Float) (g : Bool) → Place x at g → inEvery rs x at g ≡ false)
+unfolding inSome
+none-listed rs listed c = (λ e x at g q. sym (c .exact x at g q) ∙ ap (λ (l : List Rect). inSome l x at g) e, go listed (c .exact) (c .valid) (c .non-empty))
+  where
+    go : (l : List Rect) → ((x at : Float) (g : Bool) → Place x at g → inSome l x at g ≡ inEvery rs x at g) → All Valid l → All (λ r. empty r ≡ false) l
+        → ((x at : Float) (g : Bool) → Place x at g → inEvery rs x at g ≡ false) → l ≡ []
+    go [] e v n h = refl
+    go (r ∷ l) e v n h =
+        let q = own-place (v .0) (n .0) in
+        absurd (false≢true (sym (h (r .lat .lo) (r .lng .hi) false q) ∙ sym (e (r .lat .lo) (r .lng .hi) false q)
+        ∙ some-of (r .lat .lo) (r .lng .hi) false (first {l = l}) (own-held (v .0) (n .0))))
+
+-- ---- every piece carries the common latitude band
+carried : (b : Line) (l : List Circle) → All (λ r. r .lat ≡ b) (across b l)
+unfolding across
+carried b [] = tt
+carried b (i ∷ l) = (refl, carried b l)
+
+pub carries-band : (rs : List Rect) → All (λ r. r .lat ≡ band (asReadAll rs)) (region (asReadAll rs))
+unfolding region
+carries-band rs = go (line.empty (band (asReadAll rs)))
+  where
+    go : (t : Bool) → All (λ r. r .lat ≡ band (asReadAll rs)) (cond t [] (across (band (asReadAll rs)) (common (lngs (asReadAll rs)))))
+    go true = tt
+    go false = carried (band (asReadAll rs)) (common (lngs (asReadAll rs)))
+
+-- ---- at most n
+length-lngs : (rs : List Rect) → length (lngs rs) ≡ length rs
+unfolding lngs
+length-lngs [] = refl
+length-lngs (r ∷ l) = ap suc (length-lngs l)
+
+length-read : (rs : List Rect) → length (asReadAll rs) ≡ length rs
+unfolding asReadAll
+length-read [] = refl
+length-read (r ∷ l) = ap suc (length-read l)
+
+pub at-most : (rs : List Rect) → All Valid rs → 1 ≤ length rs → length (region (asReadAll rs)) ≤ length rs
+unfolding region
+at-most rs v h = go (line.empty (band (asReadAll rs)))
+  where
+    n : length (lngs (asReadAll rs)) ≡ length rs
+    n = length-lngs (asReadAll rs) ∙ length-read rs
+
+    go : (t : Bool) → length (cond t [] (across (band (asReadAll rs)) (common (lngs (asReadAll rs))))) ≤ length rs
+    go true = omega arith
+    go false =
+        omega (arith, length-across (band (asReadAll rs)) (common (lngs (asReadAll rs))), n, common-few (lngs (asReadAll rs)) (valid-read-lngs rs v) (omega (arith, n)))
+
+-- ---- order and repetition
+every-at : {r : Rect} {l : List Rect} (x at : Float) (g : Bool) → inEvery l x at g ≡ true → Mem r l → holds r x at g ≡ true
+unfolding inEvery
+every-at x at g h first = and-l _ _ h
+every-at x at g h (later {y} {l} m) = every-at x at g (and-r (holds y x at g) _ h) m
+
+every-of : (l : List Rect) (x at : Float) (g : Bool) → ((r : Rect) → Mem r l → holds r x at g ≡ true) → inEvery l x at g ≡ true
+unfolding inEvery
+every-of [] x at g f = refl
+every-of (r ∷ l) x at g f = and-of (f r first) (every-of l x at g (λ o m. f o (later m)))
+
+-- each entry of l is one of m
+abbrev pub Within : List Rect → List Rect → Type 0
+Within l m = (r : Rect) → Mem r l → Mem r m
+
+every-same : (l m : List Rect) → Within l m → Within m l → (x at : Float) (g : Bool) → inEvery l x at g ≡ inEvery m x at g
+every-same l m f h x at g =
+    both-ways _ _ (λ t. every-of m x at g (λ r n. every-at x at g t (h r n))) (λ t. every-of l x at g (λ r n. every-at x at g t (f r n)))
+
+pub same-entries : (l m : List Rect) → All Valid l → All Valid m → Within l m → Within m l → region (asReadAll l) ≡ region (asReadAll m)
+same-entries l m v w f h =
+    unique m (region (asReadAll l)) (region (asReadAll m)) (same-region l m (region (asReadAll l)) (λ x at g q. every-same l m f h x at g) (listed-is l v)) (listed-is m w)
+
+-- no entry of a list of valid rectangles is refused
+none-refused : (rs : List Rect) → All Valid rs → firstRefused rs ≡ 0
+unfolding firstRefused firstRefusal
+none-refused [] v = refl
+none-refused (r ∷ l) v = rw (one-in r (v .0)) (none-refused l (v .1))
+
+-- up to 512 valid rectangles, with room for the pieces, are accepted
+pub accepts : (l : List Float) (room : ℕ) → wholeList l ≡ true → All Valid (rectsOf l) → 4 * length (piecesOf l) ≤ room → refusalOf l room ≡ number accepted
+accepts l room w v h = room-enough l room w (none-refused (rectsOf l) v) (length (piecesOf l)) refl h
+
+-- lists of numbers that hold the same valid rectangles, in any order and however often, have the same answer and leave the same output
+module _ (l m : List Float) (p : wholeList l ≡ true) (q : wholeList m ≡ true) (v : All Valid (rectsOf l)) (w : All Valid (rectsOf m))
+    (f : Within (rectsOf l) (rectsOf m)) (h : Within (rectsOf m) (rectsOf l)) where
+  same-pieces : piecesOf l ≡ piecesOf m
+  unfolding piecesOf
+  same-pieces = same-entries (rectsOf l) (rectsOf m) v w f h
+
+  same-refusal : (room : ℕ) → refusalOf l room ≡ refusalOf m room
+  unfolding refusalOf
+  same-refusal room = rw (p, q, none-refused (rectsOf l) v, none-refused (rectsOf m) w, same-pieces) refl
+
+  pub same-answer : (room : ℕ) → answer l room ≡ answer m room
+  unfolding answer
+  same-answer room = rw (same-refusal room, same-pieces) refl
+
+  pub same-left : (out : List Float) → left l out ≡ left m out
+  unfolding left
+  same-left out = rw (same-refusal (length out), same-pieces) refl
+
+-- ---- two answers that the promise allows, and the outputs left, coincide
+pub determined : (l out : List Float) {r r' : Pieces} {o o' : List Float} → Promised l out r o → Promised l out r' o' → (r ≡ r') × (o ≡ o')
+determined l out p q = (p .answers ∙ sym (q .answers), p .leaves ∙ sym (q .leaves))
+
+-- a refusal alters no number
+pub unaltered : (l out : List Float) {r : Pieces} {o : List Float} → Promised l out r o → (r .refusal ≡ 0 → ⊥) → o ≡ out
+unfolding answer left
+unaltered l out p h =
+    p .leaves ∙ simp (ne-eqb (refusalOf l (length out)) 0 (λ e. h (ap (λ (z : Pieces). z .refusal) (p .answers) ∙ e)))

@@ -1,0 +1,13 @@
+pub mod Entries
+pub mod Orders
+pub mod Pieces
+pub mod Clipping
+pub mod Listed
+pub mod Unique
+pub mod Insertion
+pub mod Turns
+pub mod Written
+pub mod Accepted
+pub mod Promises
+pub mod Laws
+pub mod Examples

@@ -1,0 +1,20 @@
+-- `region::clip::end_of`: at each return the answer is the definition's, under the test that led there. Assumes nothing.
+use mathlib.Core.Path.{sym}
+use borrow.Author.Needs.{needs}
+use Rattle.region.proofs.clip.end_of.Statement.{statement}
+use Rattle.region.proofs.clip.end_of.Tie as tie
+use Rattle.region.proofs.clip.end_of.Reads as reads
+use Rattle.region.proofs.clip.end_of.Lts as lts
+use Rattle.s1.proofs.circle.fast_contains.Reads as fast-contains-reads
+
+fast-contains-requires : tie.Need-fast-contains-requires
+fast-contains-requires c κs = search needs
+
+returns : tie.Need-returns
+returns c = simp (sym (c .before .fast-contains .ensures), c .if1 .taken)
+
+returns-2 : tie.Need-returns-2
+returns-2 c = simp (sym (c .before .fast-contains .ensures), c .if1 .left)
+
+pub end-of-spec : {M : Type 1} → statement M
+end-of-spec = tie.close (tie.spec fast-contains-requires returns returns-2)

@@ -1,0 +1,16 @@
+-- `region::clip::is_whole`: the answer is the definition's, by that of `is_full`. Assumes nothing.
+use borrow.Author.Needs.{needs}
+use Rattle.region.proofs.clip.is_whole.Statement.{statement}
+use Rattle.region.proofs.clip.is_whole.Tie as tie
+use Rattle.region.proofs.clip.is_whole.Reads as reads
+use Rattle.region.proofs.clip.is_whole.Lts as lts
+use Rattle.s1.proofs.circle.is_full.Reads as is-full-reads
+
+is-full-requires : tie.Need-is-full-requires
+is-full-requires c κs = search needs
+
+returns : tie.Need-returns
+returns c = simp (c .is-full .ensures)
+
+pub is-whole-spec : {M : Type 1} → statement M
+is-whole-spec = tie.close (tie.spec is-full-requires returns)

@@ -1,0 +1,23 @@
+-- `region::clip::sooner`: at each return the answer is the definition's, under the test that led there. Assumes nothing.
+use mathlib.Core.Path.{sym}
+use Rattle.region.specs.Clipping.{sooner}
+use borrow.Author.Needs.{needs}
+use Rattle.region.proofs.clip.sooner.Statement.{statement}
+use Rattle.region.proofs.clip.sooner.Tie as tie
+use Rattle.region.proofs.clip.sooner.Reads as reads
+use Rattle.region.proofs.clip.sooner.Lts as lts
+use Rattle.region.proofs.clip.is_before.Reads as is-before-reads
+
+is-before-requires : tie.Need-is-before-requires
+is-before-requires c κs = search needs
+
+returns : tie.Need-returns
+unfolding sooner
+returns c = simp (sym (c .before .is-before .ensures), c .if1 .taken)
+
+returns-2 : tie.Need-returns-2
+unfolding sooner
+returns-2 c = simp (sym (c .before .is-before .ensures), c .if1 .left)
+
+pub sooner-spec : {M : Type 1} → statement M
+sooner-spec = tie.close (tie.spec is-before-requires returns returns-2)

@@ -1,0 +1,138 @@
+-- `region::region::region_in`: each return is a case of the promise, which proofs/Promises.antt has by what was found. Assumes nothing.
+use mathlib.Core.Path.{_≡_, sym, ap, _∙_}
+use mathlib.Core.Bool.{true, false}
+use mathlib.Core.List.{List, _++_}
+use Prim.Native.Nat.{_*_, _≤_}
+use native.Mathlib.Omega.{arith}
+use lib.ListN.{length, drop}
+use Rattle.r1.specs.Line as line
+use Rattle.s2.specs.declared.rect.Rect.{Rect}
+use Rattle.region.specs.Answers.{numbers, piecesOf, wholeList}
+use Rattle.region.specs.Arrays.{zip}
+use Rattle.region.proofs.Turns.{zip-length}
+use Rattle.region.proofs.Promises.{good, bad-entry, no-room, refused, granted, granted-none, none, some, count}
+use borrow.Author.Needs.{needs}
+use Rattle.region.proofs.region.region_in.Statement.{statement}
+use Rattle.region.proofs.region.region_in.Tie as tie
+use Rattle.region.proofs.region.region_in.Reads as reads
+use Rattle.region.proofs.region.region_in.Lts as lts
+use Rattle.r1.proofs.line.is_empty.Reads as is-empty-reads
+use Rattle.region.proofs.region.find.Reads as find-reads
+use Rattle.region.proofs.region.write_out.Reads as write-out-reads
+
+find-requires : tie.Need-find-requires
+find-requires c κs = search needs
+
+same-length : tie.Need-same-length
+same-length c = search needs
+
+same-length-2 : tie.Need-same-length-2
+same-length-2 c = search needs
+
+returns : tie.Need-returns
+returns c =
+    let s = c .before .before .before .before .before .before .before .before .before .before .before .before .before in
+    let l = s .args .list .now in
+    let o = s .args .out .now in
+    let k = c .before .before .before .before .before .before .find in
+    let w : wholeList l ≡ true = good l (omega arith) (omega arith) in
+    refused l o (k .result .refusal) (bad-entry l (length o) w (k .result .refusal) (k .ensures .refusal-is) (c .if1 .taken)) (c .if1 .taken)
+
+is-empty-requires : tie.Need-is-empty-requires
+is-empty-requires c κs = search needs
+
+same-length-3 : tie.Need-same-length-3
+same-length-3 c = search needs
+
+same-length-4 : tie.Need-same-length-4
+same-length-4 c = search needs
+
+returns-2 : tie.Need-returns-2
+returns-2 c =
+    let s = c .before .before .before .before .before .before .before .before .before .before .before .before .before .before .before in
+    let l = s .args .list .now in
+    let o = s .args .out .now in
+    let k = c .before .before .before .before .before .before .before .before .find in
+    let w : wholeList l ≡ true = good l (omega arith) (omega arith) in
+    let a : k .result .refusal ≡ 0 = c .before .before .if1 .left in
+    let e : line.empty (k .result .lat) ≡ true = sym (c .before .is-empty .ensures) ∙ c .if2 .taken in
+    granted-none l o (c .before .before .before .before .before .before .before .before .before .before .before .before .before .before .shared-slice-known .given) w (sym (k .ensures .refusal-is) ∙ a) (none l (k .result) (zip (k .last .1 .0) (k .last .1 .1 .0)) (k .ensures) a e)
+
+mul-if3 : tie.Need-mul-if3
+mul-if3 c = search needs
+
+same-length-5 : tie.Need-same-length-5
+same-length-5 c = search needs
+
+same-length-6 : tie.Need-same-length-6
+same-length-6 c = search needs
+
+returns-3 : tie.Need-returns-3
+returns-3 c =
+    let s = c .before .before .before .before .before .before .before .before .before .before .before .before .before .before .before .before .before in
+    let l = s .args .list .now in
+    let o = s .args .out .now in
+    let k = c .before .before .before .before .before .before .before .before .before .before .find in
+    let w : wholeList l ≡ true = good l (omega arith) (omega arith) in
+    let lo = k .last .1 .0 in
+    let hi = k .last .1 .1 .0 in
+    let q : length lo ≡ length hi = omega (arith, k .kept .1 .0, k .kept .1 .1 .0) in
+    let h : k .result .count ≤ length (zip lo hi) = omega (arith, k .kept .1 .0, k .ensures .few, zip-length lo hi q) in
+    let a : k .result .refusal ≡ 0 = c .before .before .before .before .if1 .left in
+    let e : line.empty (k .result .lat) ≡ false = sym (c .before .before .before .is-empty .ensures) ∙ c .before .before .if2 .left in
+    let n : length (piecesOf l) ≡ k .result .count = count l (k .result) (zip lo hi) (k .ensures) a e h in
+    refused l o 6 (no-room l (length o) w (sym (k .ensures .refusal-is) ∙ a) (k .result .count) n (c .if3 .taken)) (λ z. omega arith)
+
+write-out-requires : tie.Need-write-out-requires
+write-out-requires c κs =
+    let k = c .before .before .before .before .before .before .before .before .before .before .before .before .before .find in
+    (omega (arith, k .ensures .few), omega (arith, k .ensures .few, k .kept .1 .0), omega (arith, k .kept .1 .0, k .kept .1 .1 .0), omega arith)
+
+same-length-7 : tie.Need-same-length-7
+same-length-7 c = search needs
+
+same-length-8 : tie.Need-same-length-8
+same-length-8 c = search needs
+
+same-length-9 : tie.Need-same-length-9
+same-length-9 c = search needs
+
+returns-4 : tie.Need-returns-4
+returns-4 c =
+    let s = c .before .before .before .before .before .before .before .before .before .before .before .before .before .before .before .before .before .before .before .before .before .before .before in
+    let l = s .args .list .now in
+    let o = s .args .out .now in
+    let k = c .before .before .before .before .before .before .before .before .before .before .before .before .before .before .before .before .find in
+    let w : wholeList l ≡ true = good l (omega arith) (omega arith) in
+    let lo = k .last .1 .0 in
+    let hi = k .last .1 .1 .0 in
+    let q : length lo ≡ length hi = omega (arith, k .kept .1 .0, k .kept .1 .1 .0) in
+    let h : k .result .count ≤ length (zip lo hi) = omega (arith, k .kept .1 .0, k .ensures .few, zip-length lo hi q) in
+    let a : k .result .refusal ≡ 0 = c .before .before .before .before .before .before .before .before .before .before .if1 .left in
+    let e : line.empty (k .result .lat) ≡ false = sym (c .before .before .before .before .before .before .before .before .before .is-empty .ensures) ∙ c .before .before .before .before .before .before .before .before .if2 .left in
+    let n : length (piecesOf l) ≡ k .result .count = count l (k .result) (zip lo hi) (k .ensures) a e h in
+    let x = c .before .before .write-out in
+    granted l o (c .before .before .before .before .before .before .before .before .before .before .before .before .before .before .before .before .before .before .before .before .before .before .shared-slice-known .given) w (sym (k .ensures .refusal-is) ∙ a) (k .result .count) (x .last .1 .1 .1 .1 .0) n (omega arith)
+    (x .ensures ∙ ap (λ (r : List Rect). numbers r ++ drop (4 * k .result .count) o) (sym (some l (k .result) (zip lo hi) (k .ensures) a e)))
+
+pub region-in-spec : {M : Type 1} → statement M
+region-in-spec =
+    tie.close
+    (tie.spec
+    find-requires
+    same-length
+    same-length-2
+    returns
+    is-empty-requires
+    same-length-3
+    same-length-4
+    returns-2
+    mul-if3
+    same-length-5
+    same-length-6
+    returns-3
+    write-out-requires
+    same-length-7
+    same-length-8
+    same-length-9
+    returns-4)

@@ -1,0 +1,41 @@
+-- What the functions of src/ promise each other about the pieces found so far, which lie in two arrays: western ends in one, eastern ends in the other.
+-- Definitions only.
+use mathlib.Core.Path.{_≡_}
+use mathlib.Core.Bool.{false}
+use mathlib.Core.List.{List, [], _∷_}
+use Prim.Native.Nat.{ℕ, _+_, _/_, _≤_}
+use lib.ListN.{length, take}
+use lib.Ieee.{Float}
+use Rattle.consts.specs.Refusal.{number, accepted}
+use Rattle.s1.specs.declared.interval.Interval.{Interval}
+use Rattle.s1.specs.Circle.{ends}
+use Rattle.region.specs.declared.clip.Cut.{Cut}
+use Rattle.region.specs.declared.region.Found.{Found}
+use Rattle.region.specs.Clipping.{someHolds, cut, endAt, common}
+use Rattle.region.specs.Region.{lngs, band}
+use Rattle.region.specs.Answers.{rectsOf, asReadAll, firstRefused}
+
+-- two arrays as one list of pieces
+unfoldable pub zip : List Float → List Float → List Interval
+zip [] h = []
+zip (x ∷ l) [] = []
+zip (x ∷ l) (y ∷ h) = ends x y ∷ zip l h
+
+-- the first of l are the pieces found, which were m, cut by the arc i
+pub record IsCut (i : Interval) (found : List Interval) (m : ℕ) (c : Cut) (l : List Interval) : Type 0 where
+  pub is : take (c .n) l ≡ cut i found
+  pub opens : c .open ≡ someHolds found (i .lo) false
+  pub end-is : c .end ≡ endAt (i .lo) (i .hi) found
+  pub few : c .n ≤ m
+
+-- the first n of l are the pieces p, at most one more than m
+pub record Firsts (n : ℕ) (l p : List Interval) (m : ℕ) : Type 0 where
+  pub is : take n l ≡ p
+  pub few : n ≤ m + 1
+
+-- all that was found in the list of numbers l, with the longitude pieces the first of d
+pub record IsFound (l : List Float) (f : Found) (d : List Interval) : Type 0 where
+  pub refusal-is : f .refusal ≡ firstRefused (rectsOf l)
+  pub lat-is : f .refusal ≡ number accepted → f .lat ≡ band (asReadAll (rectsOf l))
+  pub is : f .refusal ≡ number accepted → take (f .count) d ≡ common (lngs (asReadAll (rectsOf l)))
+  pub few : f .count ≤ length l / 4 + 1

@@ -1,0 +1,5 @@
+pub mod CommonRegion
+pub mod Clipping
+pub mod Region
+pub mod Answers
+pub mod Arrays

@@ -1,0 +1,8 @@
+// The common region of a lent list of rectangles: all that lies in every one of them, as pieces of which
+// no two can be joined. `clip` clips the longitude pieces found so far by one arc more; `region` reads
+// the list, refuses, and writes the pieces out.
+mod clip;
+mod region;
+
+pub use region::Pieces;
+pub use region::common_region;

@@ -1,0 +1,168 @@
+//! The stored questions of the common region: lists that are special by their kind, each with several
+//! rooms, then lists aimed at each refusal and arm, long lists, and lines that are no question.
+
+use std::f64::consts::{FRAC_PI_2, PI};
+
+use super::{needed, Asked, AIMS, MOST_NUMBERS, MOST_RECTS, REFUSALS};
+use crate::draw::{self, list::bad};
+use crate::malformed;
+use crate::plan::{self, Aim};
+use crate::refusals::{NOT_VALID, OUT_OF_REACH};
+use crate::rng::Rng;
+
+type Rect = [f64; 4];
+
+const EMPTY: Rect = [1.0, 0.0, PI, -PI];
+const FULL: Rect = [-FRAC_PI_2, FRAC_PI_2, -PI, PI];
+
+/// Longitudes that zones are made of: wide ones, nearly full ones, single points, some over the seam.
+const ARCS: &[[f64; 2]] = &[
+    [-1.0, 1.0],
+    [1.0, -1.0],
+    [2.0, 1.0],
+    [0.5, 0.25],
+    [-2.0, 3.0],
+    [3.0, -3.0],
+    [-PI, PI],
+    [NEXT_TO_SEAM, PI],
+    [PI, NEXT_TO_SEAM],
+    [PI, -NEXT_TO_SEAM],
+    [NEXT_TO_SEAM, -NEXT_TO_SEAM],
+    [-NEXT_TO_SEAM, NEXT_TO_SEAM],
+    [0.0, -5e-324],
+    [5e-324, -0.0],
+    [-5e-324, 5e-324],
+    [0.0, PI],
+    [PI, 0.0],
+    [PI, PI],
+    [1.0, 1.0],
+];
+
+/// The double just above -PI.
+const NEXT_TO_SEAM: f64 = f64::from_bits(0xC009_21FB_5444_2D17);
+
+pub fn lines(rng: &mut Rng) -> Vec<Vec<u8>> {
+    let mut asked = pairs();
+    asked.extend(each_room());
+    asked.extend(at_each_position(rng));
+    asked.extend(poles());
+    for number in REFUSALS {
+        asked.extend((0..4).map(|_| plan::aimed_list(rng, Aim::Refusal(*number))));
+    }
+    for arm in AIMS {
+        asked.extend((0..6).map(|_| plan::aimed_list(rng, Aim::Arm(*arm))));
+    }
+    asked.extend((0..60).map(|_| draw::list::short(rng)));
+    asked.extend(longest());
+    let mut lines: Vec<Vec<u8>> = asked.iter().map(|asked| plan::written_list(rng, asked)).collect();
+    lines.extend(no_questions(rng));
+    lines
+}
+
+/// A list with as much room as its pieces take.
+fn fitting(rects: &[Rect]) -> Asked {
+    let numbers = rects.concat();
+    Asked { room: needed(&numbers), numbers }
+}
+
+fn zone([lo, hi]: [f64; 2]) -> Rect {
+    [0.0, 1.0, lo, hi]
+}
+
+/// Each longitude alone, and with each other one: of these one order, by turns.
+fn pairs() -> Vec<Asked> {
+    let alone = ARCS.iter().map(|arc| fitting(&[zone(*arc)]));
+    let paired =
+        (0..ARCS.len()).flat_map(|a| (0..a).map(move |b| if (a + b) % 2 == 0 { [a, b] } else { [b, a] }));
+    alone.chain(paired.map(|pair| fitting(&pair.map(|at| zone(ARCS[at]))))).collect()
+}
+
+/// Lists of no piece up to four, each with every room up to one number more than needed.
+fn each_room() -> Vec<Asked> {
+    let lists: &[&[Rect]] = &[
+        &[],
+        &[EMPTY],
+        &[FULL],
+        &[zone([-1.0, 1.0]), zone([2.0, 3.0])],
+        &[zone([-1.0, 1.0])],
+        &[zone([-1.0, 1.0]), zone([1.0, -1.0])],
+        &[zone([2.0, 1.0]), FULL, zone([0.5, 0.25])],
+        &[zone([1.0, 0.5]), zone([2.0, 1.5]), zone([-1.0, -2.0])],
+        &[zone([1.0, 0.5]), zone([2.0, 1.0]), zone([PI, 3.0]), zone([-1.0, PI])],
+    ];
+    let rooms = |rects: &&[Rect]| {
+        let numbers = rects.concat();
+        (0..=needed(&numbers) + 1).map(move |room| Asked { room, numbers: numbers.clone() })
+    };
+    lists.iter().flat_map(rooms).collect()
+}
+
+/// A list of four zones with four pieces: at each position an empty entry, a full one, a point, a bad one
+/// of each kind, a bad one beside another bad one; and the list cut off after each number.
+fn at_each_position(rng: &mut Rng) -> Vec<Asked> {
+    let zones = [[2.0, 1.0], [0.5, 0.25], [0.25, -0.5], [-1.0, -1.5]].map(zone);
+    let mut asked = Vec::new();
+    for at in 0..zones.len() {
+        let mut entries = vec![EMPTY, [-FRAC_PI_2, -2.0, PI, -PI], FULL, [0.0, 1.0, 1.0, 1.0]];
+        for number in [OUT_OF_REACH, NOT_VALID, OUT_OF_REACH, NOT_VALID] {
+            entries.push(bad(rng, number));
+        }
+        for entry in entries {
+            let mut rects = zones;
+            rects[at] = entry;
+            asked.push(Asked { room: 16, numbers: rects.concat() });
+        }
+        let mut rects = zones;
+        rects[at] = bad(rng, NOT_VALID);
+        rects[(at + 1) % zones.len()] = bad(rng, OUT_OF_REACH);
+        asked.push(Asked { room: 16, numbers: rects.concat() });
+    }
+    asked.extend((0..=16).map(|end| Asked { room: 16, numbers: zones.concat()[..end].to_vec() }));
+    asked
+}
+
+/// Bands that meet in a pole, in one latitude, in neighbouring ones or not at all.
+fn poles() -> Vec<Asked> {
+    let bands = [
+        [FRAC_PI_2, FRAC_PI_2],
+        [-FRAC_PI_2, -FRAC_PI_2],
+        [-FRAC_PI_2, FRAC_PI_2],
+        [-FRAC_PI_2, 0.0],
+        [-0.0, FRAC_PI_2],
+        [5e-324, 1.0],
+        [1.0, FRAC_PI_2],
+        [-1.0, 5e-324],
+    ];
+    let pair = |a: [f64; 2], b: [f64; 2]| fitting(&[[a[0], a[1], -1.0, 1.0], [b[0], b[1], 1.0, -1.0]]);
+    bands.iter().flat_map(|a| bands.iter().map(move |b| pair(*a, *b))).collect()
+}
+
+/// The most entries with as many pieces, the most entries with one piece, and one entry too many.
+fn longest() -> Vec<Asked> {
+    let notch = |at: usize| {
+        let from = (at as f64 - 256.0) / 128.0;
+        zone([from + 1.0 / 256.0, from])
+    };
+    let notched: Vec<Rect> = (0..MOST_RECTS).map(notch).collect();
+    let mut zones = vec![zone([2.0, 1.0]); MOST_RECTS];
+    zones[MOST_RECTS - 1] = zone([0.5, 3.0]);
+    let too_many = vec![FULL; MOST_RECTS + 1];
+    vec![fitting(&notched), fitting(&zones), fitting(&too_many)]
+}
+
+/// Lines that are no question: rooms, bars and lists of the wrong form, and the kinds that any line has.
+fn no_questions(rng: &mut Rng) -> Vec<Vec<u8>> {
+    let rooms =
+        ["", "-", "-1", "+4", "04", "00", "2053", "9999", "10000", "4.0", "0x4", "A", "18446744073709551620"];
+    let bars = ["", " ", " | ", " ||", " | |", "|", " :", " |0000000000000000", " | 4"];
+    let mut lines: Vec<Vec<u8>> = rooms.iter().map(|room| format!("common {room} |").into_bytes()).collect();
+    lines.extend(bars.iter().map(|bar| format!("common 4{bar}").into_bytes()));
+    lines.push([b"common 0 |".to_vec(), b" 0000000000000000".repeat(MOST_NUMBERS + 1)].concat());
+    for (name, spoil) in malformed::KINDS {
+        if !name.starts_with("a byte") {
+            lines.push(malformed::list_of_kind(rng, *spoil));
+        }
+    }
+    lines.retain(|line| malformed::is_none(line));
+    lines
+}
