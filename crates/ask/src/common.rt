@@ -17,7 +17,7 @@ const MOST: usize = 2052;
 const BEFORE: f64 = 42.0;
 
 // Puts the answer's line at a place of out, and says where it ends; s is what follows the name.
-pub fn reply(s: &[u8], at: usize, out: &mut [u8]) -> usize
+pub(crate) fn reply(s: &[u8], at: usize, out: &mut [u8]) -> usize
     requires { ⌜ at + room ≤ length (now out) ⌝ }
     ensures { λ r. ⌜ r ≤ length (now (out .exit)) ⌝ }
 {

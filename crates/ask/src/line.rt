@@ -14,7 +14,7 @@ use r1::interval::Interval;
 
 // The answer to a question of this layer. Operands come as they are asked with, unread: two intervals
 // a and b, or in the place of b a number p.
-pub fn reply(name: &[u8], count: usize, x: Numbers) -> Reply {
+pub(crate) fn reply(name: &[u8], count: usize, x: Numbers) -> Reply {
     let p = x[2];
     let a = Interval { lo: x[0], hi: x[1] };
     let b = Interval { lo: p, hi: x[3] };

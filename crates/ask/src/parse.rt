@@ -30,7 +30,7 @@ pub enum Octet {
 }
 
 // Where the name ends: at the first space, or with the line.
-pub fn name_end(s: &[u8]) -> usize
+pub(crate) fn name_end(s: &[u8]) -> usize
     ensures { λ r. ⌜ Counts r (now (s .entry)) ⌝ }
 {
     let mut i = 0;
@@ -44,7 +44,7 @@ pub fn name_end(s: &[u8]) -> usize
 }
 
 // Whether a question has this name and as many numbers as its operation takes.
-pub fn asks(name: &[u8], count: usize, wanted: &[u8], takes: usize) -> bool {
+pub(crate) fn asks(name: &[u8], count: usize, wanted: &[u8], takes: usize) -> bool {
     if count != takes {
         return false;
     }
@@ -53,7 +53,7 @@ pub fn asks(name: &[u8], count: usize, wanted: &[u8], takes: usize) -> bool {
 
 // Reads numbers from the first byte to the last, puts them at the start of x, and says how many there
 // are. Where the bytes are something else, or more numbers than x holds, it says one more than x holds.
-pub fn numbers(s: &[u8], x: &mut [f64]) -> usize {
+pub(crate) fn numbers(s: &[u8], x: &mut [f64]) -> usize {
     let bad = x.len() + 1;
     let n = s.len() / WORD;
     if s.len() % WORD != 0 {
@@ -94,7 +94,7 @@ fn number(s: &[u8], at: usize) -> Read
 }
 
 // Reads a vertex number: a space and two digits, and no byte more.
-pub fn two_digits(s: &[u8]) -> Octet {
+pub(crate) fn two_digits(s: &[u8]) -> Octet {
     if s.len() != 3 {
         return Octet::Bad;
     }
@@ -113,7 +113,7 @@ pub fn two_digits(s: &[u8]) -> Octet {
 }
 
 // The value of a hexadecimal digit of either case.
-pub fn digit(b: u8) -> u8 {
+pub(crate) fn digit(b: u8) -> u8 {
     match b {
         b'0'..=b'9' => b - b'0',
         b'A'..=b'F' => b - b'A' + 10,

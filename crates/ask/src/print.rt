@@ -10,7 +10,7 @@ ghost use Rattle.ask.specs.Room.{room};
 pub const ROOM: usize = 36000;
 
 // Puts an answer's line at a place of out, and says where it ends.
-pub fn reply(a: Reply, at: usize, out: &mut [u8]) -> usize
+pub(crate) fn reply(a: Reply, at: usize, out: &mut [u8]) -> usize
     requires { ⌜ at + room ≤ length (now out) ⌝ }
     ensures { λ r. ⌜ r ≤ length (now (out .exit)) ⌝ }
 {
@@ -34,7 +34,7 @@ fn answer(a: Reply, at: usize, out: &mut [u8]) -> usize
 }
 
 // Puts the line of a common region: the refusal, the count of its pieces, and the list that they are in.
-pub fn pieces(n: u8, count: usize, x: &[f64], at: usize, out: &mut [u8]) -> usize
+pub(crate) fn pieces(n: u8, count: usize, x: &[f64], at: usize, out: &mut [u8]) -> usize
     requires { ⌜ at + room ≤ length (now out) ⌝ }
     requires { ⌜ length (now x) ≤ 2052 ⌝ }
     ensures { λ r. ⌜ r ≤ length (now (out .exit)) ⌝ }

@@ -22,7 +22,7 @@ const FOUR: usize = 4 * WORD;
 // The answer to a question of this layer, but for `rect.vertex`. Operands come as they are asked with,
 // unread: two rectangles a and b, then the errors; in the place of b a point or margins p; in the place
 // of a two points p1 and p2.
-pub fn reply(name: &[u8], count: usize, x: Numbers) -> Reply {
+pub(crate) fn reply(name: &[u8], count: usize, x: Numbers) -> Reply {
     let a = bounds(x[0], x[1], x[2], x[3]);
     let b = bounds(x[4], x[5], x[6], x[7]);
     let p1 = LatLng {
@@ -51,7 +51,7 @@ pub fn reply(name: &[u8], count: usize, x: Numbers) -> Reply {
 
 // The answer to `rect.vertex`, of which s is what follows the name: a rectangle's four numbers, then
 // the vertex number.
-pub fn vertex(s: &[u8]) -> Reply {
+pub(crate) fn vertex(s: &[u8]) -> Reply {
     if s.len() < FOUR {
         return Reply::Unknown;
     }

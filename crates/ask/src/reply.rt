@@ -13,16 +13,16 @@ pub enum Reply {
     Unbounded(u8),
 }
 
-pub fn test(a: YesNo) -> Reply {
+pub(crate) fn test(a: YesNo) -> Reply {
     Reply::Test(a.refusal, a.value)
 }
 
-pub fn number(a: Number) -> Reply {
+pub(crate) fn number(a: Number) -> Reply {
     Reply::One(a.refusal, a.value)
 }
 
 // The first of two replies, unless the second alone is known.
-pub fn either(a: Reply, b: Reply) -> Reply {
+pub(crate) fn either(a: Reply, b: Reply) -> Reply {
     if let Reply::Unknown = a {
         return b;
     }
