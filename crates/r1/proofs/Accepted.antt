@@ -2,14 +2,15 @@
 use mathlib.Core.Path.{_≡_}
 use lib.Ieee.{Float}
 use Rattle.consts.specs.Refusal.{number, badPoint, firstRefusal}
+use Rattle.consts.specs.Answer.{numberAnswer}
 use Rattle.consts.specs.Reading.{plain}
 use Rattle.consts.proofs.Readings.{read-in}
 use Rattle.r1.specs.declared.interval.Interval.{Interval}
-use Rattle.r1.specs.Line.{overlap, hull, pair, grown}
+use Rattle.r1.specs.Line.{overlap, clamped, hull, pair, grown}
 use Rattle.r1.specs.Reading.{plainEnds}
-use Rattle.r1.specs.Answers.{lineAnswer, intersection, union, fromPointPair, add}
+use Rattle.r1.specs.Answers.{lineAnswer, clampPoint, intersection, union, fromPointPair, add}
 use Rattle.r1.specs.Places.{Place, InReach}
-use Rattle.r1.proofs.Readings.{one-in, two-in}
+use Rattle.r1.proofs.Readings.{one-in, two-in, with-in}
 
 module _ (i o : Interval) (v : InReach i) (w : InReach o) where
   pub union-is : union i o ≡ lineAnswer (hull (plainEnds i) (plainEnds o))
@@ -19,6 +20,10 @@ module _ (i o : Interval) (v : InReach i) (w : InReach o) where
   pub intersection-is : intersection i o ≡ lineAnswer (overlap (plainEnds i) (plainEnds o))
   unfolding intersection
   intersection-is = simp (two-in i v o w)
+
+pub clamp-is : (i : Interval) (x : Float) → InReach i → Place x → clampPoint i x ≡ numberAnswer (clamped (plainEnds i) (plain x))
+unfolding clampPoint
+clamp-is i x v q = simp (with-in i v x (number badPoint) (q .in-reach))
 
 pub add-is : (i : Interval) (x : Float) → InReach i → Place x → add i x ≡ lineAnswer (grown (plainEnds i) (plain x))
 unfolding add

@@ -16,17 +16,17 @@ use Rattle.r1.specs.Reading.{plainEnds}
 use Rattle.r1.specs.Answers.{«new», fromPoint, fromPointPair, center, len, clampPoint, expanded, union, intersection, add}
 use Rattle.r1.specs.Places.{Place, InReach}
 use Rattle.r1.proofs.Readings.{one-in, with-in, place-plain, reach-plain}
-use Rattle.r1.proofs.Accepted.{union-is, intersection-is, add-is, pair-is}
+use Rattle.r1.proofs.Accepted.{union-is, intersection-is, clamp-is, add-is, pair-is}
 
 cond-is : {A : Type 0} (P : A → Type 0) (t : Bool) {x y : A} → P x → P y → P (cond t x y)
 cond-is P true p q = p
 cond-is P false p q = q
 
-smaller-is : (P : Float → Type 0) {x y : Float} → P x → P y → P (smaller x y)
+pub smaller-is : (P : Float → Type 0) {x y : Float} → P x → P y → P (smaller x y)
 unfolding smaller
 smaller-is P {x} {y} p q = cond-is P (lt y x) q p
 
-larger-is : (P : Float → Type 0) {x y : Float} → P x → P y → P (larger x y)
+pub larger-is : (P : Float → Type 0) {x y : Float} → P x → P y → P (larger x y)
 unfolding larger
 larger-is P {x} {y} p q = cond-is P (lt x y) q p
 
@@ -75,6 +75,10 @@ module _ (i o : Interval) (v : InReach i) (w : InReach o) where
 pub add-reach : (i : Interval) (x : Float) → InReach i → Place x → InReach (add i x .value)
 add-reach i x v q = rw (add-is i x v q) (reach-of (grown-ends Place Place (plain x) (place-plain q) (place-plain q) (plainEnds i) (ends-of (reach-plain v))))
 
+pub clamp-reach : (i : Interval) (x : Float) → InReach i → Place x → Place (clampPoint i x .value)
+unfolding clamped
+clamp-reach i x v q = rw (clamp-is i x v q) (larger-is Place (place-plain (v .lo-place)) (smaller-is Place (place-plain (v .hi-place)) (place-plain q)))
+
 pub from-point-pair-reach : (x y : Float) → Place x → Place y → InReach (fromPointPair x y .value)
 from-point-pair-reach x y q r =
     rw (pair-is x y q r) (reach-of (pair-ends Place Place (plain x) (place-plain q) (place-plain q) (plain y) (place-plain r) (place-plain r)))
@@ -112,9 +116,8 @@ module _ (i : Interval) (v : InReach i) (x : Float) (q : Place x) where
       (cond-is NoMinusEnds (empty (plainEnds i)) (plain-ends i) (plain-plain _, plain-plain _))
 
   pub clamp-plain : NoMinus (clampPoint i x .value)
-  unfolding clampPoint clamped
-  clamp-plain =
-      simp (with-in i v x (number badPoint) (q .in-reach)) (larger-is NoMinus (plain-plain (i .lo)) (smaller-is NoMinus (plain-plain (i .hi)) (plain-plain x)))
+  unfolding clamped
+  clamp-plain = rw (clamp-is i x v q) (larger-is NoMinus (plain-plain (i .lo)) (smaller-is NoMinus (plain-plain (i .hi)) (plain-plain x)))
 
 module _ (i : Interval) (v : InReach i) where
   pub center-plain : NoMinus (center i .value)

@@ -5,19 +5,19 @@ use mathlib.Core.Bool.{Bool, true, false, not, false≢true}
 use mathlib.Core.Logic.{_↔_}
 use lib.Ieee.{Float}
 use Rattle.order.proofs.Ranks.{and-l, and-r, and-of, or-of-l, or-of-r}
-use Rattle.consts.specs.Refusal.{number, badPoint}
+use Rattle.consts.specs.Refusal.{number, accepted, badPoint}
 use Rattle.consts.specs.Answer.{yesNo, Decides}
 use Rattle.consts.specs.Reading.{inReach, plain}
-use Rattle.consts.proofs.Readings.{read-out}
+use Rattle.consts.proofs.Readings.{plain-le, le-plain, read-out}
 use Rattle.consts.proofs.Decisions.{decides}
 use Rattle.r1.specs.declared.interval.Interval.{Interval}
-use Rattle.r1.specs.Line.{empty, holds, strictlyHolds, covers, strictlyCovers, meets, strictlyMeets, same}
+use Rattle.r1.specs.Line.{empty, holds, strictlyHolds, covers, strictlyCovers, meets, strictlyMeets, clamped, same}
 use Rattle.r1.specs.Reading.{plainEnds}
-use Rattle.r1.specs.Answers.{isEmpty, contains, interiorContains, containsInterval, interiorContainsInterval, intersects, interiorIntersects, equal, intersection, union, fromPointPair, add}
-use Rattle.r1.specs.Places.{Place, InReach, Inside, StrictlyInside, Meets, Nothing}
-use Rattle.r1.proofs.Readings.{place-plain, reach-plain, one-in, two-in, with-in, holds-plain, strict-plain, point-plain, strict-point}
-use Rattle.r1.proofs.Accepted.{union-is, intersection-is, add-is, pair-is}
-use Rattle.r1.proofs.Ends.{add-reach, from-point-pair-reach}
+use Rattle.r1.specs.Answers.{isEmpty, contains, interiorContains, clampPoint, containsInterval, interiorContainsInterval, intersects, interiorIntersects, equal, intersection, union, fromPointPair, add}
+use Rattle.r1.specs.Places.{Place, InReach, Inside, StrictlyInside, Meets, Nearest, Nothing}
+use Rattle.r1.proofs.Readings.{place-num, place-plain, reach-plain, one-in, two-in, with-in, empty-plain, holds-plain, strict-plain, point-plain, strict-point}
+use Rattle.r1.proofs.Accepted.{union-is, intersection-is, clamp-is, add-is, pair-is}
+use Rattle.r1.proofs.Ends.{clamp-reach, add-reach, from-point-pair-reach}
 use Rattle.r1.proofs.Trials as trials
 use Rattle.r1.proofs.Trials.{point-reach, pair-reach}
 
@@ -71,6 +71,21 @@ module _ (i : Interval) (v : InReach i) where
   interior-contains-place p q =
       let e = strict-plain i v (plain p) (place-plain q) ∙ strict-point i v p q in
       decides {b = strictlyHolds (plainEnds i) (plain p)} (simp (with-in i v p (number badPoint) (q .in-reach))) (λ h. sym e ∙ h) (λ h. e ∙ h)
+
+  -- `clamp_point` of an interval that is not empty is accepted, and answers the place of it that lies nearest to the point
+  pub clamp-point-nearest : (p : Float) → Place p → empty i ≡ false → (clampPoint i p .refusal ≡ number accepted) × Nearest i p (clampPoint i p .value)
+  clamp-point-nearest p q h =
+      rw (clamp-is i p v q)
+      (let r : Place (clamped (plainEnds i) (plain p)) = simp (clamp-is i p v q) at (clamp-reach i p v q) in
+      let a = place-num q in
+      let b = place-num r in (
+        refl,
+        record {
+          is-place = r;
+          held = from-plain v r (trials.clamped-held (reach-plain v) (reach-plain v) (place-plain q) (rw (empty-plain i v, h) refl));
+          on-the-way = λ x s k. simp (plain-le, le-plain) at (trials.clamped-nearest (reach-plain v) (point-reach s) (place-plain q) (to-plain v s k));
+        },
+      ))
 
 -- ---- two intervals
 module _ (i o : Interval) (v : InReach i) (w : InReach o) where

@@ -9,7 +9,7 @@ use Rattle.consts.specs.Refusal.{number, accepted, outOfReach, firstRefusal}
 use Rattle.consts.specs.Reading.{inReach, plain, readNumber}
 use Rattle.consts.proofs.Readings.{reach-num, plain-fits, plain-reach, plain-le, le-plain, plain-lt, lt-plain}
 use Rattle.r1.specs.declared.interval.Interval.{Interval}
-use Rattle.r1.specs.Line.{holds, strictlyHolds}
+use Rattle.r1.specs.Line.{empty, holds, strictlyHolds}
 use Rattle.r1.specs.Reading.{plainEnds, readOne, readTwo, readWith}
 use Rattle.r1.specs.Places.{Place, InReach}
 
@@ -35,6 +35,15 @@ module _ (i : Interval) (v : InReach i) where
   pub with-in : (x : Float) (n : ℕ) → inReach x ≡ true → readWith i x n ≡ record { refusal = number accepted; value = plainEnds i; number = plain x }
   unfolding readWith readOne readNumber firstRefusal
   with-in x n h = simp (v .lo-place .in-reach, v .hi-place .in-reach, h)
+
+  -- it is empty as it was
+  pub empty-plain : empty (plainEnds i) ≡ empty i
+  unfolding empty
+  empty-plain =
+      let a = place-num (v .lo-place) in
+      let b = place-num (v .hi-place) in
+      let c = place-num (place-plain (v .lo-place)) in
+      simp (plain-lt, lt-plain)
 
   -- the same places are held, and the same lie strictly inside
   module _ (p : Float) (q : Place p) where

@@ -7,13 +7,16 @@ use mathlib.Core.Logic.{⊎-elim}
 use Prim.Native.Nat.{ℕ}
 use lib.Dec.{ltb, leb, eqb}
 use lib.Ieee.{Float, lt, le, eq}
+use Rattle.order.specs.Choice.{smaller}
+use Rattle.order.specs.Key.{Num}
 use Rattle.order.specs.Rank.{In, here, there, rank, all, imp}
 use Rattle.order.proofs.Ranks.{rank-lt, lt-rank, le-rank, eq-rank, all-at, imp-at, imp-of, and-l, and-r, and-of, or-at}
 use Rattle.order.proofs.Choices.{cond-of, smaller-le, le-smaller, larger-le, le-larger}
 use Rattle.r1.specs.declared.interval.Interval.{Interval}
-use Rattle.r1.specs.Line.{emptyG, holdsG, containsG, meetsG, ends, empty, holds, strictlyHolds, covers, strictlyCovers, meets, strictlyMeets, overlap, hull, pair, grown, same}
-use Rattle.r1.specs.Places.{Place, InReach, Inside, StrictlyInside, Meets}
+use Rattle.r1.specs.Line.{emptyG, holdsG, containsG, meetsG, ends, empty, holds, strictlyHolds, covers, strictlyCovers, meets, strictlyMeets, overlap, clamped, hull, pair, grown, same}
+use Rattle.r1.specs.Places.{Place, InReach, Inside, StrictlyInside, Meets, onTheWay}
 use Rattle.r1.proofs.Readings.{place-num}
+use Rattle.r1.proofs.Ends.{smaller-is}
 
 -- ---- trial of every order of the ends a, b and c, d and a place p: where C holds, G holds
 abbrev Five : Type 0
@@ -111,6 +114,30 @@ taken-all = refl
 pair-all : trial (λ a b c d p. true) (λ a b c d p. pairG ltb leb a b a && pairG ltb leb a b b) ≡ true
 unfolding trial all imp
 pair-all = refl
+
+-- the number p clamped to a to b: how it compares with y, by the same choices
+module _ {A : Type 0} (lt le : A → A → Bool) where
+  abbrev clampFromG : A → A → A → A → Bool
+  clampFromG a b p y = le y a || (le y b && le y p)
+
+  abbrev clampToG : A → A → A → A → Bool
+  clampToG a b p y = le a y && (le b y || le p y)
+
+  -- it lies from a to b
+  abbrev clampHeldG : A → A → A → Bool
+  clampHeldG a b p = clampFromG a b p a && clampToG a b p b
+
+  -- it lies on the way from p to x
+  abbrev clampG : A → A → A → A → Bool
+  clampG a b p x = (clampFromG a b p p && clampToG a b p x) || (clampFromG a b p x && clampToG a b p p)
+
+clamped-all : trial (λ a b c d p. not (emptyN a b)) (λ a b c d p. clampHeldG ltb leb a b p) ≡ true
+unfolding trial all imp
+clamped-all = refl
+
+nearest-all : trial (λ a b c d p. holdsN a b c) (λ a b c d p. clampG ltb leb a b p c) ≡ true
+unfolding trial all imp
+nearest-all = refl
 
 nothing-all : trial (λ a b c d p. holdsN a b p) (λ a b c d p. not (emptyN a b)) ≡ true
 unfolding trial all imp
@@ -280,6 +307,33 @@ module _ {i o : Interval} {p : Float} (v : InReach i) (w : InReach o) (q : Place
   pair-holds =
       let e : pairG lt le (i .lo) (i .hi) (i .lo) && pairG lt le (i .lo) (i .hi) (i .hi) ≡ true = simp ranks (at _ _ pair-all refl) in
       (pair-at (i .lo) ∙ and-l _ _ e, pair-at (i .hi) ∙ and-r (pairG lt le (i .lo) (i .hi) (i .lo)) _ e)
+
+  -- ---- the number p clamped to i
+  clamped-num : Num (smaller (i .hi) p) ≡ true
+  clamped-num = place-num (smaller-is Place (v .hi-place) q)
+
+  -- i, where it is not empty, holds it
+  pub clamped-held : not (empty i) ≡ true → holds i (clamped i p) ≡ true
+  unfolding holds clamped empty
+  clamped-held h =
+      let a = place-num (v .lo-place) in
+      let b = place-num (v .hi-place) in
+      let n = place-num q in
+      let m = clamped-num in
+      let e : clampHeldG lt le (i .lo) (i .hi) p ≡ true = simp ranks (at _ _ clamped-all (simp ranks at h)) in
+      simp (larger-le, le-larger, smaller-le, le-smaller) e
+
+  -- it lies on the way from p to the place o .lo, where i holds that
+  pub clamped-nearest : holds i (o .lo) ≡ true → onTheWay p (o .lo) (clamped i p) ≡ true
+  unfolding holds clamped
+  clamped-nearest h =
+      let a = place-num (v .lo-place) in
+      let b = place-num (v .hi-place) in
+      let c = place-num (w .lo-place) in
+      let n = place-num q in
+      let m = clamped-num in
+      let e : clampG lt le (i .lo) (i .hi) p (o .lo) ≡ true = simp ranks (at _ _ nearest-all (simp ranks at h)) in
+      simp (larger-le, le-larger, smaller-le, le-smaller) e
 
 -- ---- intervals of places
 pub point-reach : {x : Float} → Place x → InReach (ends x x)

@@ -72,6 +72,7 @@ length i = plain (Ieee.sub binary64 (i .hi) (i .lo))
 unfoldable pub overlap : Interval → Interval → Interval
 overlap i o = ends (larger (i .lo) (o .lo)) (smaller (i .hi) (o .hi))
 
+-- of an interval that is not empty the place nearest to p (proofs/Places.antt, `clamp-point-nearest`)
 unfoldable pub clamped : Interval → Float → Float
 clamped i p = larger (i .lo) (smaller (i .hi) p)
 

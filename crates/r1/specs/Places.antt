@@ -1,8 +1,8 @@
 -- Line intervals over places, in document 01's words: for a line interval by itself a place is a double in reach, and the interval holds the places from
 -- lo to hi, both included. Definitions only; the laws are in proofs/Places.antt.
 use mathlib.Core.Path.{_≡_}
-use mathlib.Core.Bool.{true}
-use lib.Ieee.{Float, binary64, fits}
+use mathlib.Core.Bool.{Bool, true, _&&_, _||_}
+use lib.Ieee.{Float, binary64, fits, le}
 use Rattle.consts.specs.Reading.{inReach}
 use Rattle.r1.specs.declared.interval.Interval.{Interval}
 use Rattle.r1.specs.Line.{holds, strictlyHolds}
@@ -28,6 +28,16 @@ StrictlyInside i o = (p : Float) → Place p → holds o p ≡ true → strictly
 -- some place is held by both
 abbrev pub Meets : Interval → Interval → Type 0
 Meets i o = (p : Float) × Place p × (holds i p ≡ true) × (holds o p ≡ true)
+
+-- q lies on the way from p to x, ends included
+abbrev pub onTheWay : Float → Float → Float → Bool
+onTheWay p x q = (le p q && le q x) || (le x q && le q p)
+
+-- q is the place of i that lies nearest to p: i holds it, and it lies on the way from p to every place that i holds
+pub record Nearest (i : Interval) (p q : Float) : Type 0 where
+  pub is-place : Place q
+  pub held : holds i q ≡ true
+  pub on-the-way : (x : Float) → Place x → holds i x ≡ true → onTheWay p x q ≡ true
 
 -- no place is held
 abbrev pub Nothing : Interval → Type 0

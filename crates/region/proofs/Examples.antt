@@ -1,5 +1,5 @@
--- Document 01's examples of the common region, computed: the answer and the output left for rectangles of the latitudes [0, 1] and the longitudes shown.
--- The output comes in as nines. Assumes nothing.
+-- Examples of the common region, computed: the answer, and the output left. The output comes in as nines. Document 01's three that are marked P are in the
+-- crate table, in these words. Assumes nothing.
 use mathlib.Core.Path.{_≡_, refl}
 use mathlib.Core.List.{List, [], _∷_}
 use Prim.Native.Nat.{ℕ}
@@ -39,15 +39,6 @@ pub record Gives (l : List Float) (n : ℕ) (o : List Float) : Type 0 where
   pub leaves : left l (four-nines (four-nines (NINE ∷ []))) ≡ o
 
 pub record CommonRegions : Type 0 where
-  -- common of [-1, 1] and [1, -1]: [-1, -1], [1, 1]
-  pub both-ends : Gives (zone 0xBFF0000000000000 0x3FF0000000000000 (zone 0x3FF0000000000000 0xBFF0000000000000 [])) 2
-      (zone 0xBFF0000000000000 0xBFF0000000000000 (zone 0x3FF0000000000000 0x3FF0000000000000 (NINE ∷ [])))
-  -- common of [2, 1] and [0.5, 0.25]: [0.5, 1], then [2, 0.25]
-  pub over-the-seam : Gives (zone 0x4000000000000000 0x3FF0000000000000 (zone 0x3FE0000000000000 0x3FD0000000000000 [])) 2
-      (zone 0x3FE0000000000000 0x3FF0000000000000 (zone 0x4000000000000000 0x3FD0000000000000 (NINE ∷ [])))
-  -- common of FULL and [C00921FB54442D17, PI]: the second alone
-  pub nearly-full : Gives (zone 0xC00921FB54442D18 0x400921FB54442D18 (zone 0xC00921FB54442D17 0x400921FB54442D18 [])) 1
-      (zone 0xC00921FB54442D17 0x400921FB54442D18 (four-nines (NINE ∷ [])))
   -- an empty list: the full rectangle, once
   pub no-list : Gives [] 1 (rect 0xBFF921FB54442D18 0x3FF921FB54442D18 0xC00921FB54442D18 0x400921FB54442D18 (four-nines (NINE ∷ [])))
   -- a list of one empty rectangle: no pieces
@@ -60,9 +51,6 @@ pub common-regions : CommonRegions
 unfolding answer left refusalOf wholeList firstRefused firstRefusal piecesOf rectsOf numbers asReadAll region bandFrom lngs across common steps step whole clip endAt cut insert sooner before someHolds readOne rectInReach asRead valid latitude line.empty line.overlap circle.valid circle.empty circle.full inReach plain smaller larger ofBits Ieee.lt Ieee.le Ieee.eq
 common-regions =
     record {
-      both-ends = record { answers = refl; leaves = refl };
-      over-the-seam = record { answers = refl; leaves = refl };
-      nearly-full = record { answers = refl; leaves = refl };
       no-list = record { answers = refl; leaves = refl };
       one-empty = record { answers = refl; leaves = refl };
       room-for-one = refl;

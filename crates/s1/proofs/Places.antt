@@ -15,12 +15,12 @@ use Rattle.consts.proofs.Decisions.{decides}
 use Rattle.s1.specs.declared.interval.Interval.{Interval}
 use Rattle.s1.specs.Circle.{strictlyHasG, seam, pair, full, empty, fast, has, covers, strictlyHas, strictlyCovers, meets, strictlyMeets, hull, overlap, rest, grown, same}
 use Rattle.s1.specs.Reading.{plainEnds, onCircle}
-use Rattle.s1.specs.Answers.{circleAnswer, isValid, isFull, isEmpty, contains, interiorContains, containsInterval, interiorContainsInterval, intersects, interiorIntersects, equal, union, intersection, complement, fromPointPair, add}
+use Rattle.s1.specs.Answers.{circleAnswer, isValid, isFull, isEmpty, contains, fastContains, interiorContains, containsInterval, interiorContainsInterval, intersects, interiorIntersects, equal, union, intersection, complement, fromPointPair, add}
 use Rattle.s1.specs.Places.{holds, strictlyHolds, Place, Valid, Inside, StrictlyInside, Meets, StrictlyMeets, Nothing, Everything}
 use Rattle.s1.proofs.Held as held
 use Rattle.s1.proofs.Held.{at-PI, at-num, clash}
 use Rattle.s1.proofs.Laws as laws
-use Rattle.s1.proofs.Limits.{OnCircle, valid-plain, holds-plain, strict-plain, point-plain, strict-point, plain-place, circle-plain, seam-place, seam-plain, one-in, two-in, point-in, read-point, point-out}
+use Rattle.s1.proofs.Limits.{OnCircle, valid-plain, holds-plain, strict-plain, point-plain, strict-point, plain-place, circle-plain, point-num, seam-place, seam-plain, one-in, two-in, point-in, read-point, point-out}
 
 -- ---- an interval and itself as it is read
 module _ {i : Interval} (v : Valid i) {p : Float} {g : Bool} (q : Place p g) where
@@ -90,6 +90,14 @@ module _ (i : Interval) (v : Valid i) where
         let e : holds (plainEnds i) (seam (plain p)) false ≡ holds i (seam p) false =
         rw (seam-plain q) (holds-plain i v (plain (seam p)) false (plain-num (seam p) n) ∙ point-plain i v (seam p) false n) in
         decides {b = holds (plainEnds i) (seam (plain p)) false} (simp (point-in i v p q)) (λ h. sym e ∙ h) (λ h. e ∙ h)
+
+    -- `fast_contains` of a point other than -PI too (of -PI itself docs/DIFFERENCES.md, F7)
+    pub fast-contains-place : eq p NEG-PI ≡ false → Decides (fastContains i p) (holds i (seam p) false ≡ true)
+    unfolding fastContains fast seam
+    fast-contains-place k =
+        let m = point-num q in
+        let e : holds (plainEnds i) (plain p) false ≡ holds i p false = holds-plain i v (plain p) false (plain-num p m) ∙ point-plain i v p false m in
+        rw k (decides {b = holds (plainEnds i) (plain p) false} (simp (point-in i v p q)) (λ h. sym e ∙ h) (λ h. e ∙ h))
 
     -- `interior_contains` exactly when it lies strictly inside
     pub interior-contains-place : Decides (interiorContains i p) (strictlyHolds i (seam p) false ≡ true)

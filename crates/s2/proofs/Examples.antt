@@ -1,30 +1,17 @@
--- Worked examples, computed by the definitions: document 01's two on a rectangle alone, and the kinds of valid empty rectangle. Assumes nothing.
+-- Worked examples, computed by the definitions: the kinds of valid empty rectangle, and two answers that a reader may not expect. Document 01's own are in
+-- the crate table. Assumes nothing.
 use mathlib.Core.Path.{_≡_, refl}
 use mathlib.Core.Bool.{true, false}
-use lib.Ieee as Ieee
-use lib.Ieee.{Float, binary64, ofBits, lt, le, eq}
-use Rattle.order.specs.Choice.{smaller, larger}
+use lib.Ieee.{binary64, ofBits, lt, le, eq}
 use Rattle.consts.specs.Refusal.{number, outOfReach, firstRefusal}
 use Rattle.consts.specs.Answer.{ZERO, yesNo, noUnder}
-use Rattle.consts.specs.Reading.{inReach, plain, readNumber}
+use Rattle.consts.specs.Reading.{inReach, plain}
 use Rattle.r1.specs.Line as line
 use Rattle.s1.specs.Circle as circle
 use Rattle.s2.specs.declared.rect.Rect.{Rect}
-use Rattle.s2.specs.Rect.{SOUTH, at, box, FULL, EMPTY, latitude, valid, empty, full, closure, widened, strictlyCovers}
-use Rattle.s2.specs.Reading.{rectInReach, asRead, readOne, readTwo, readMargins, readWithMargins}
-use Rattle.s2.specs.Answers.{rectAnswer, isValid, isInverted, interiorContains, expanded, polarClosure}
-
-abbrev ONE : Float
-ONE = line.ONE
-
--- {0} by {0}
-abbrev pub origin : Rect
-origin = box (line.ends ZERO ZERO) (circle.ends ZERO ZERO)
-
--- expanded by 2 and 4 it is the full one
-pub origin-expanded : expanded origin (at (ofBits binary64 0x4000000000000000) (ofBits binary64 0x4010000000000000)) ≡ rectAnswer FULL
-unfolding expanded readWithMargins readOne readMargins readNumber asRead rectInReach valid latitude inReach plain firstRefusal widened line.widened line.empty line.overlap circle.widened circle.valid circle.empty circle.full circle.length smaller larger ofBits lt le eq Ieee.add Ieee.sub Ieee.mul
-origin-expanded = refl
+use Rattle.s2.specs.Rect.{SOUTH, box, FULL, EMPTY, latitude, valid, empty, closure, strictlyCovers}
+use Rattle.s2.specs.Reading.{rectInReach, asRead, readOne, readTwo}
+use Rattle.s2.specs.Answers.{rectAnswer, isValid, isInverted, interiorContains, polarClosure}
 
 -- ---- valid empty rectangles: lat.hi has no least value but reach
 -- lat.lo at the south pole, lat.hi below it

@@ -41,11 +41,6 @@ pub vertex-turn : (r : Rect) (n : ℕ) → vertex r (n + 4) ≡ vertex r n
 unfolding vertex corner
 vertex-turn r n = simp add-mod-right
 
--- P: vertex 255 is vertex 3
-pub vertex-255 : (r : Rect) → vertex r 255 ≡ vertex r 3
-unfolding vertex corner
-vertex-255 r = refl
-
 -- ---- growth
 cond-is : {A : Type 0} (P : A → Type 0) (t : Bool) {x y : A} → P x → P y → P (cond t x y)
 cond-is P true p q = p

@@ -1,24 +1,28 @@
--- Document 01's boundary examples marked P: a single table, each line computed, rounding included. Longitudes are in radians; numbers are named here and
--- given by their bits. Assumes nothing.
+-- Document 01's boundary examples marked P: a single table, each line computed here by the definitions that the contracts cite, rounding included.
+-- Longitudes are in radians; numbers are named here and given by their bits. Assumes nothing.
 use mathlib.Core.Path.{_≡_, refl}
 use mathlib.Core.List.{[], _∷_}
-use lib.Ieee.{Float, binary64, ofBits, lt, le, eq, add, sub}
+use lib.Ieee as Ieee
+use lib.Ieee.{Float, binary64, ofBits, lt, le, eq}
+use Rattle.order.specs.Choice.{smaller, larger}
 use Rattle.consts.specs.Constants.{PI, NEG-PI, TWO}
 use Rattle.consts.specs.Answer.{ZERO}
-use Rattle.consts.specs.Reading.{inReach, plain}
+use Rattle.consts.specs.Reading.{inReach, plain, readNumber}
 use Rattle.consts.specs.Refusal.{firstRefusal}
+use Rattle.r1.specs.Line as line
 use Rattle.s1.specs.declared.interval.Interval.{Interval}
-use Rattle.s1.specs.Circle.{ends, FULL, EMPTY, distance, seam, valid, full, empty, length, fast, covers, hull, overlap, grown}
+use Rattle.s1.specs.Circle.{ends, FULL, EMPTY, distance, seam, valid, full, empty, length, fast, covers, hull, overlap, widened, grown}
 use Rattle.s1.specs.Reading.{readOne, readTwo, onCircle, readPoint}
+use Rattle.s1.specs.Answers.{circleAnswer, union, intersection, add}
 use Rattle.s2.specs.declared.rect.Rect.{Rect}
-use Rattle.s2.specs.Rect.{FULL as FULL-RECT}
+use Rattle.s2.specs.Rect as rect
+use Rattle.s2.specs.Rect.{at, box}
+use Rattle.s2.specs.Reading as rects
 use Rattle.s2.specs.Answers.{rectAnswer, vertex, expanded}
-use Rattle.s2.proofs.Examples as examples
-use Rattle.s2.proofs.Examples.{origin}
-use Rattle.s2.proofs.Numbers as corners
-use Rattle.region.proofs.Examples as regions
+use Rattle.region.specs.Clipping as pieces
+use Rattle.region.specs.Region as region
+use Rattle.region.specs.Answers as answers
 use Rattle.region.proofs.Examples.{zone, NINE, four-nines, Gives}
-use Rattle.s1.specs.Answers.{circleAnswer, union, intersection, add as grow}
 
 abbrev ONE : Float
 ONE = ofBits binary64 0x3FF0000000000000
@@ -34,9 +38,47 @@ abbrev ABOVE : Float
 ABOVE = ofBits binary64 0xC00921FB54442D17
 
 -- one point
-abbrev at : Float → Interval
-at p = ends p p
+abbrev point : Float → Interval
+point p = ends p p
 
+-- {0} by {0}
+abbrev origin : Rect
+origin = box (line.ends ZERO ZERO) (point ZERO)
+
+-- ---- what some lines of the table say, each with its proof
+-- the rectangle {0} by {0} expanded by 2 and 4 is the full one
+abbrev OriginExpanded : Type 0
+OriginExpanded = expanded origin (at TWO FOUR) ≡ rectAnswer rect.FULL
+
+origin-expanded : OriginExpanded
+unfolding
+    expanded rects.readWithMargins rects.readOne rects.readMargins rects.asRead rects.rectInReach readNumber firstRefusal inReach plain rect.valid rect.latitude rect.widened line.widened line.empty line.overlap widened valid empty full length smaller larger ofBits lt le eq Ieee.add Ieee.sub Ieee.mul
+origin-expanded = refl
+
+-- common of [-1, 1] and [1, -1]: [-1, -1], [1, 1]
+abbrev BothEnds : Type 0
+BothEnds =
+    Gives (zone 0xBFF0000000000000 0x3FF0000000000000 (zone 0x3FF0000000000000 0xBFF0000000000000 [])) 2
+    (zone 0xBFF0000000000000 0xBFF0000000000000 (zone 0x3FF0000000000000 0x3FF0000000000000 (NINE ∷ [])))
+
+-- common of [2, 1] and [0.5, 0.25]: [0.5, 1], then [2, 0.25]
+abbrev OverTheSeam : Type 0
+OverTheSeam =
+    Gives (zone 0x4000000000000000 0x3FF0000000000000 (zone 0x3FE0000000000000 0x3FD0000000000000 [])) 2
+    (zone 0x3FE0000000000000 0x3FF0000000000000 (zone 0x4000000000000000 0x3FD0000000000000 (NINE ∷ [])))
+
+-- common of FULL and [C00921FB54442D17, PI]: the second alone
+abbrev NearlyFull : Type 0
+NearlyFull =
+    Gives (zone 0xC00921FB54442D18 0x400921FB54442D18 (zone 0xC00921FB54442D17 0x400921FB54442D18 [])) 1
+    (zone 0xC00921FB54442D17 0x400921FB54442D18 (four-nines (NINE ∷ [])))
+
+common-regions : BothEnds × OverTheSeam × NearlyFull
+unfolding
+    answers.answer answers.left answers.refusalOf answers.wholeList answers.firstRefused answers.piecesOf answers.rectsOf answers.numbers answers.asReadAll region.region region.bandFrom region.lngs region.across pieces.common pieces.steps pieces.step pieces.whole pieces.clip pieces.endAt pieces.cut pieces.insert pieces.sooner pieces.before pieces.someHolds rects.readOne rects.rectInReach rects.asRead rect.valid rect.latitude firstRefusal inReach plain line.empty line.overlap valid empty full smaller larger ofBits lt le eq
+common-regions = (record { answers = refl; leaves = refl }, record { answers = refl; leaves = refl }, record { answers = refl; leaves = refl })
+
+-- ---- the table
 pub record Table : Type 0 where
   -- [-1, 1] and [1, -1] meet at both ends: the crate's intersection is one of them, and their union FULL
   pub two-wide : intersection (ends NEG-ONE ONE) (ends ONE NEG-ONE) ≡ circleAnswer (ends NEG-ONE ONE)
@@ -44,29 +86,22 @@ pub record Table : Type 0 where
   -- both lengths round to 2 PI
   pub nearly-full : intersection FULL (ends ABOVE PI) ≡ circleAnswer FULL
   -- the union of two points depends on the order
-  pub zero-seam : union (at ZERO) (at PI) ≡ circleAnswer (ends ZERO PI)
-  pub seam-zero : union (at PI) (at ZERO) ≡ circleAnswer (ends PI ZERO)
+  pub zero-seam : union (point ZERO) (point PI) ≡ circleAnswer (ends ZERO PI)
+  pub seam-zero : union (point PI) (point ZERO) ≡ circleAnswer (ends PI ZERO)
   -- -PI is the place PI
-  pub grown-seam : grow EMPTY NEG-PI ≡ circleAnswer (at PI)
+  pub grown-seam : add EMPTY NEG-PI ≡ circleAnswer (point PI)
   -- no point of the circle
-  pub grown-refused : grow (ends ZERO ONE) FOUR ≡ record { refusal = 3; value = ends ZERO ONE }
-  -- the rectangle {0} by {0} expanded by 2 and 4
-  pub origin-expanded : expanded origin (record { lat = TWO; lng = FOUR }) ≡ rectAnswer FULL-RECT
-  -- common of [-1, 1] and [1, -1]: [-1, -1], [1, 1]
-  pub common-both-ends : Gives (zone 0xBFF0000000000000 0x3FF0000000000000 (zone 0x3FF0000000000000 0xBFF0000000000000 [])) 2
-      (zone 0xBFF0000000000000 0xBFF0000000000000 (zone 0x3FF0000000000000 0x3FF0000000000000 (NINE ∷ [])))
-  -- common of [2, 1] and [0.5, 0.25]: [0.5, 1], then [2, 0.25]
-  pub common-over-the-seam : Gives (zone 0x4000000000000000 0x3FF0000000000000 (zone 0x3FE0000000000000 0x3FD0000000000000 [])) 2
-      (zone 0x3FE0000000000000 0x3FF0000000000000 (zone 0x4000000000000000 0x3FD0000000000000 (NINE ∷ [])))
-  -- common of FULL and [C00921FB54442D17, PI]: the second alone
-  pub common-nearly-full : Gives (zone 0xC00921FB54442D18 0x400921FB54442D18 (zone 0xC00921FB54442D17 0x400921FB54442D18 [])) 1
-      (zone 0xC00921FB54442D17 0x400921FB54442D18 (four-nines (NINE ∷ [])))
+  pub grown-refused : add (ends ZERO ONE) FOUR ≡ record { refusal = 3; value = ends ZERO ONE }
+  pub origin-full : OriginExpanded
+  pub common-both-ends : BothEnds
+  pub common-over-the-seam : OverTheSeam
+  pub common-nearly-full : NearlyFull
   -- the vertex number is reduced modulo 4
   pub vertex-255 : (r : Rect) → vertex r 255 ≡ vertex r 3
 
 pub table : Table
 unfolding
-    intersection union grow readOne readTwo readPoint onCircle firstRefusal inReach plain valid full empty fast covers hull overlap length distance seam grown le lt eq add sub ofBits
+    intersection union add readOne readTwo readPoint onCircle firstRefusal inReach plain valid full empty fast covers hull overlap length distance seam grown vertex rect.corner le lt eq Ieee.add Ieee.sub ofBits
 table =
     record {
       two-wide = refl;
@@ -76,9 +111,9 @@ table =
       seam-zero = refl;
       grown-seam = refl;
       grown-refused = refl;
-      origin-expanded = examples.origin-expanded;
-      common-both-ends = regions.common-regions .both-ends;
-      common-over-the-seam = regions.common-regions .over-the-seam;
-      common-nearly-full = regions.common-regions .nearly-full;
-      vertex-255 = corners.vertex-255;
+      origin-full = origin-expanded;
+      common-both-ends = common-regions .0;
+      common-over-the-seam = common-regions .1;
+      common-nearly-full = common-regions .2;
+      vertex-255 = λ r. refl;
     }
