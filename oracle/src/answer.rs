@@ -2,9 +2,9 @@
 
 use std::io::{self, BufRead, Write};
 
-use crate::common;
 use crate::differences;
 use crate::lines::Lines;
+use crate::lists;
 use crate::ops::{Op, Value};
 use crate::question;
 use crate::refusals;
@@ -62,8 +62,8 @@ fn digits(x: f64) -> String {
 
 /// What the oracle answers to a line, without newlines.
 pub fn answer_line(line: &[u8]) -> String {
-    if let Some(asked) = common::read(line) {
-        return common::answer(&asked).text();
+    if let Some(asked) = lists::read(line) {
+        return asked.answer().text();
     }
     match question::read(line) {
         Some(asked) => answer(asked.op, &asked.numbers).text(),

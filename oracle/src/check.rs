@@ -2,32 +2,41 @@
 //! of validity against the crate's, and the statements over places that hold for the crate.
 
 use crate::answer::answer_line;
+use crate::common;
 use crate::draw;
-use crate::examples;
+use crate::examples::{self, streams::Worked};
 use crate::layers::consts::TWO_PI;
 use crate::ops::{self, Value};
 use crate::places;
 use crate::question;
 use crate::refusals;
 use crate::rng::Rng;
+use crate::streams;
 
-/// How many remainders, pairs of circle intervals, pairs of rectangles, lists, and questions of validity.
+/// How many remainders, pairs of circle intervals, pairs of rectangles, lists of rectangles, lists of
+/// points, streams, and questions of validity.
 const REMAINDERS: usize = 1_000_000;
 const CIRCLE_PAIRS: usize = 200_000;
 const RECT_PAIRS: usize = 100_000;
 const LISTS: usize = 50_000;
+const POINT_LISTS: usize = 50_000;
+const STREAMS: usize = 5_000;
 const VALIDITY_TESTS: usize = 200_000;
 
 /// Prints what is wrong; gives the number of faults.
 pub fn run() -> usize {
     let worked: usize = examples::ALL.iter().map(|part| part.len()).sum();
+    let streams = examples::streams::worked();
     [
         ("worked answers", worked, worked_answers()),
+        ("worked streams", streams.len(), worked_streams(&streams)),
         ("exact remainders", REMAINDERS, exact_remainders()),
         ("tests of validity against the crate's", VALIDITY_TESTS, validity_tests()),
         ("pairs of circle intervals against places", CIRCLE_PAIRS, places::circle::faults(CIRCLE_PAIRS)),
         ("pairs of rectangles against places", RECT_PAIRS, places::rect::faults(RECT_PAIRS)),
         ("lists of rectangles against places", LISTS, places::common::faults(LISTS)),
+        ("lists of points against places", POINT_LISTS, places::growth::faults(POINT_LISTS)),
+        ("streams against the same lists", STREAMS, streams_as_lists()),
     ]
     .into_iter()
     .map(|(what, count, wrong)| {
@@ -44,6 +53,44 @@ fn worked_answers() -> usize {
         let got = answer_line(question.as_bytes());
         if got != expected {
             println!("'{question}'\n  answers  {got}\n  expected {expected}");
+            faults += 1;
+        }
+    }
+    faults
+}
+
+fn worked_streams(worked: &[Worked]) -> usize {
+    let mut faults = 0;
+    for (name, bytes, expected) in worked {
+        let got = streams::answer(bytes);
+        if got != *expected {
+            println!("stream '{name}'\n  answers  {got:?}\n  expected {expected:?}");
+            faults += 1;
+        }
+    }
+    faults
+}
+
+/// A stream of at most 512 whole records with right marks is answered as the list of its numbers, in the
+/// stream's words.
+fn streams_as_lists() -> usize {
+    let mut rng = Rng::new(1, "streams as lists");
+    let mut faults = 0;
+    for _ in 0..STREAMS {
+        let mut numbers = draw::list::short(&mut rng).numbers;
+        numbers.truncate(numbers.len() / 4 * 4);
+        let bytes: Vec<u8> =
+            numbers.chunks_exact(4).flat_map(|n| streams::record([n[0], n[1], n[2], n[3]])).collect();
+        let room = common::needed(&numbers);
+        let list = common::answer(&common::Asked { room, numbers }).text();
+        // "0 COUNT NUMBERS" or "NUMBER 0", as words; the stream has the same ones, and one more before.
+        let (stream, words) = (streams::answer(&bytes), list.split(' ').collect::<Vec<_>>());
+        let expected = match words[0] {
+            "0" => format!("pieces {}", words[1..].join(" ")),
+            number => format!("refused {number}"),
+        };
+        if stream.split_ascii_whitespace().collect::<Vec<_>>().join(" ") != expected {
+            println!("the stream answers {stream:?}, the list {list}");
             faults += 1;
         }
     }

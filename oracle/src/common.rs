@@ -2,7 +2,7 @@
 //! table of operations, since its operand is a list of any length and the crate has no such function:
 //! the expected pieces come from a reference of our own (`common/region.rs`).
 
-mod region;
+pub mod region;
 pub mod stored;
 
 use crate::answer::Answer;
@@ -16,9 +16,6 @@ pub const NAME: &str = "common";
 /// one rectangle more.
 pub const MOST_RECTS: usize = 512;
 pub const MOST_NUMBERS: usize = 4 * (MOST_RECTS + 1);
-
-/// A list of more rectangles than this is a long one.
-pub const SHORT: usize = 8;
 
 /// What each number of the output list is before.
 const BEFORE: f64 = f64::from_bits(0x4045_0000_0000_0000);
@@ -39,11 +36,8 @@ pub fn read(line: &[u8]) -> Option<Asked> {
         return None;
     }
     let room = room(words.next()?)?;
-    if words.next()? != b"|" {
-        return None;
-    }
-    let numbers: Vec<f64> = words.map(question::number).collect::<Option<_>>()?;
-    (numbers.len() <= MOST_NUMBERS).then_some(Asked { room, numbers })
+    let numbers = question::list(words, MOST_NUMBERS)?;
+    Some(Asked { room, numbers })
 }
 
 /// A decimal whole number without a leading zero or a sign, up to the most that a list may have.
@@ -110,7 +104,6 @@ const MORE: Arm = arm("three or more pieces");
 const OVER_THE_SEAM: Arm = arm("a piece over the seam");
 const FULL: Arm = arm("a piece all round");
 const EMPTY_LIST: Arm = arm("an empty list");
-const LONG_LIST: Arm = arm("a long list");
 
 const fn arm(name: &'static str) -> Arm {
     Arm { part: "", name }
@@ -119,17 +112,9 @@ const fn arm(name: &'static str) -> Arm {
 /// What accepted questions are aimed at, in turn.
 pub const AIMS: &[Arm] = &[NO_PIECES, ONE, TWO, MORE, OVER_THE_SEAM, FULL, EMPTY_LIST];
 
-/// All arms. Long lists are few and costly: they are not aimed at, they have places of their own.
-pub fn arms() -> Vec<Arm> {
-    [AIMS, &[LONG_LIST]].concat()
-}
-
-/// The arms that a question reaches: of a refused one, only that its list is long.
+/// The arms that a question reaches: of a refused one, none.
 pub fn arms_reached(asked: &Asked) -> Vec<Arm> {
     let mut hit = Vec::new();
-    if asked.numbers.len() / 4 > SHORT {
-        hit.push(LONG_LIST);
-    }
     let Ok(pieces) = decided(asked) else { return hit };
     hit.push(match pieces.len() {
         0 => NO_PIECES,

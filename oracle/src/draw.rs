@@ -3,6 +3,7 @@
 
 pub mod circle;
 pub mod list;
+pub mod points;
 pub mod rect;
 
 use std::f64::consts::PI;

@@ -1,5 +1,6 @@
 //! Awkward inputs, each a whole standard input: both doors must answer them alike, and end.
 
+use crate::growth;
 use crate::rng::Rng;
 
 /// A name and the bytes of each input.
@@ -14,7 +15,19 @@ pub fn inputs() -> Vec<(String, Vec<u8>)> {
     for length in [4_096, 8_192, 65_536, 131_072, 200_000, 200_001, 262_144, 1_000_000] {
         inputs.push((format!("question-after-{length}"), long(b"", length, b"r1.empty\nr1.empty\n")));
     }
+    for name in ["growth", "scan"] {
+        inputs.push((format!("{name}-of-most-points"), around_the_limit(name)));
+    }
     inputs
+}
+
+/// Lists of just so many numbers as growth takes, and of one or two numbers less or more, each number a 1.
+/// The start has a negative zero: a refused length hands it back.
+fn around_the_limit(name: &str) -> Vec<u8> {
+    let start = " 8000000000000000 3FF0000000000000 0000000000000000 3FF0000000000000 |";
+    let list = |count: usize| " 3FF0000000000000".repeat(count);
+    let counts = 2 * growth::MOST_POINTS - 2..=2 * growth::MOST_POINTS + 4;
+    counts.flat_map(|count| format!("{name}{start}{}\n", list(count)).into_bytes()).collect()
 }
 
 fn plain() -> Vec<(String, Vec<u8>)> {

@@ -2,15 +2,17 @@
 
 mod circle;
 mod common;
+mod growth;
 mod line;
 mod rect;
+pub mod streams;
 
 use std::f64::consts::PI;
 
 /// Questions and their answers. A number may be spelled for the reader: with a point, or as PI.
 pub type Worked = &'static [(&'static str, &'static str)];
 
-pub const ALL: &[Worked] = &[line::WORKED, circle::WORKED, rect::WORKED, common::WORKED];
+pub const ALL: &[Worked] = &[line::WORKED, circle::WORKED, rect::WORKED, common::WORKED, growth::WORKED];
 
 /// The text as the protocol writes it: every spelled number as its bit pattern. The first word is an
 /// operation's name or a refusal number, never a number.

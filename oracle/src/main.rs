@@ -8,8 +8,10 @@ mod differences;
 mod draw;
 mod edges;
 mod examples;
+mod growth;
 mod layers;
 mod lines;
+mod lists;
 mod malformed;
 mod ops;
 mod places;
@@ -17,14 +19,17 @@ mod plan;
 mod question;
 mod refusals;
 mod rng;
+mod streams;
 mod tally;
 mod vectors;
 
-use std::io::{self, Write};
+use std::io::{self, Read, Write};
 use std::process::ExitCode;
 
+use streams::compare::Tried;
+
 const USAGE: &str = "usage: oracle answer | questions COUNT SEED | tally [--arms] QUESTIONS JUDGE OTHER
-       | vectors | edges DIR | check";
+       | vectors | edges DIR | check | stream-answer | streams COUNT SEED COMMAND LIMIT DIR | cases";
 
 fn main() -> ExitCode {
     let words: Vec<String> = std::env::args().skip(1).collect();
@@ -49,8 +54,23 @@ fn run(words: &[&str]) -> io::Result<u8> {
         ["vectors"] => io::stdout().write_all(&vectors::bytes()).map(|_| 0),
         ["edges", folder] => write_edges(folder).map(|_| 0),
         ["check"] => Ok(u8::from(check::run() > 0)),
+        ["stream-answer"] => stream_answer().map(|_| 0),
+        ["streams", count, seed, command, limit, folder] => {
+            streams::compare::run(whole(count)? as usize, whole(seed)?, &Tried { command, limit, folder })
+        }
+        ["cases"] => io::stdout().write_all(streams::cases::text().as_bytes()).map(|_| 0),
         _ => Err(io::Error::other(USAGE)),
     }
+}
+
+/// What the program `common` writes for this standard input.
+fn stream_answer() -> io::Result<()> {
+    let mut bytes = Vec::new();
+    let text = match io::stdin().lock().read_to_end(&mut bytes) {
+        Ok(_) => streams::answer(&bytes),
+        Err(_) => streams::answer_unread(),
+    };
+    io::stdout().write_all(text.as_bytes())
 }
 
 fn whole(word: &str) -> io::Result<u64> {

@@ -1,7 +1,8 @@
 //! Lines that are no question, of every kind that the protocol names.
 
-use crate::common;
 use crate::draw;
+use crate::growth;
+use crate::lists::{self, Kind};
 use crate::ops::{self, Op};
 use crate::question;
 use crate::rng::Rng;
@@ -39,6 +40,36 @@ pub const KINDS: &[(&str, Spoil)] = &[
     }),
 ];
 
+/// Ways to spoil a line with a list, beside those of any line.
+pub const LIST_KINDS: &[(&str, Spoil)] = &[
+    ("no bar", |line, _| at_the_bar(line, b"")),
+    ("a bar without its space", |line, _| at_the_bar(line, b"|")),
+    ("two bars", |line, _| at_the_bar(line, b" | |")),
+    ("another sign for the bar", |line, rng| at_the_bar(line, &[b' ', rng.pick(b"/\\:;!Il1,-")])),
+    ("no bar and no list", cut_at_the_bar),
+    ("an operand missing before the bar", |line, _| {
+        let mut words = line.split(|byte| *byte == b' ');
+        let (name, rest): (_, Vec<&[u8]>) = (words.next().unwrap_or(b""), words.skip(1).collect());
+        *line = [name, &rest.join(&b' ')].join(&b' ');
+    }),
+    ("an operand too many before the bar", |line, _| at_the_bar(line, b" 3FF0000000000000 |")),
+    // One number more than the longest list of any question: what else was there may stay.
+    ("a list too long", |line, _| line.extend(b" 3FF0000000000000".repeat(growth::MOST_NUMBERS + 1))),
+];
+
+/// Puts this in place of the bar and the space before it.
+fn at_the_bar(line: &mut Vec<u8>, with: &[u8]) {
+    if let Some(bar) = line.iter().position(|byte| *byte == b'|') {
+        line.splice(bar - 1..=bar, with.iter().copied());
+    }
+}
+
+fn cut_at_the_bar(line: &mut Vec<u8>, _: &mut Rng) {
+    if let Some(bar) = line.iter().position(|byte| *byte == b'|') {
+        line.truncate(bar - 1);
+    }
+}
+
 /// Replaces one space of the line, or its end where it has none.
 fn at_a_space(line: &mut Vec<u8>, rng: &mut Rng, with: &[u8]) {
     let spaces: Vec<usize> = (0..line.len()).filter(|at| line[*at] == b' ').collect();
@@ -64,26 +95,28 @@ pub fn of_kind(rng: &mut Rng, op: &Op, spoil: Spoil) -> Vec<u8> {
     line
 }
 
-/// A spoilt list.
-pub fn list_of_kind(rng: &mut Rng, spoil: Spoil) -> Vec<u8> {
-    let mut line = common::write(&draw::list::short(rng)).into_bytes();
+/// A spoilt question with a list.
+pub fn list_of_kind(rng: &mut Rng, kind: Kind, spoil: Spoil) -> Vec<u8> {
+    let mut line = kind.short(rng).write().into_bytes();
     spoil(&mut line, rng);
     line
 }
 
 /// Whether a line is no question of any kind.
 pub fn is_none(line: &[u8]) -> bool {
-    question::read(line).is_none() && common::read(line).is_none()
+    question::read(line).is_none() && lists::read(line).is_none()
 }
 
-/// Any line that is no question.
+/// Any line that is no question: of eight one with a list.
 pub fn any(rng: &mut Rng) -> Vec<u8> {
     let all: Vec<&Op> = ops::all().collect();
     loop {
-        let (_, spoil) = rng.pick(KINDS);
-        let line = match rng.below(all.len() + 1) {
-            0 => list_of_kind(rng, spoil),
-            at => of_kind(rng, all[at - 1], spoil),
+        let line = if rng.below(8) == 0 {
+            let (kind, (_, spoil)) = (rng.pick(&lists::ALL), rng.pick(&[KINDS, LIST_KINDS].concat()));
+            list_of_kind(rng, kind, spoil)
+        } else {
+            let (op, (_, spoil)) = (rng.pick(&all), rng.pick(KINDS));
+            of_kind(rng, op, spoil)
         };
         // A spoilt line may by chance be a question again.
         if is_none(&line) {

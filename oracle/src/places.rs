@@ -3,6 +3,7 @@
 
 pub mod circle;
 pub mod common;
+pub mod growth;
 pub mod rect;
 
 use std::f64::consts::PI;

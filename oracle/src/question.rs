@@ -34,6 +34,15 @@ pub fn read(line: &[u8]) -> Option<Question> {
     }
 }
 
+/// The bar and the numbers of a list, up to so many: the rest of a line.
+pub fn list<'a>(mut words: impl Iterator<Item = &'a [u8]>, most: usize) -> Option<Vec<f64>> {
+    if words.next()? != b"|" {
+        return None;
+    }
+    let numbers: Vec<f64> = words.map(number).collect::<Option<_>>()?;
+    (numbers.len() <= most).then_some(numbers)
+}
+
 /// A double: its bit pattern in 16 digits.
 pub fn number(word: &[u8]) -> Option<f64> {
     digits(word, 16).map(f64::from_bits)

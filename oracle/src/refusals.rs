@@ -21,6 +21,7 @@ pub const BAD_POINT: u8 = 3;
 pub const BAD_AMOUNT: u8 = 4;
 pub const BAD_LENGTH: u8 = 5;
 pub const NO_ROOM: u8 = 6;
+pub const BAD_RECORD: u8 = 7;
 
 /// No NaN, and of a size that the port takes. (A comparison with a NaN is false.)
 pub fn in_reach(x: f64) -> bool {

@@ -6,9 +6,9 @@ use std::f64::consts::{FRAC_PI_2, PI};
 use std::fs::File;
 use std::io::{self, BufReader};
 
-use crate::common::{self, Asked};
 use crate::differences;
 use crate::lines::Lines;
+use crate::lists::{self, Asked, Kind};
 use crate::ops::{self, Arm, Gives, Op};
 use crate::plan;
 use crate::question;
@@ -78,7 +78,7 @@ impl Row {
 
     /// Counts what a list reaches.
     fn add_list(&mut self, asked: &Asked) {
-        for arm in common::arms_reached(asked) {
+        for arm in asked.arms_reached() {
             *self.arms.entry(arm).or_default() += 1;
         }
     }
@@ -114,7 +114,7 @@ fn shown(line: Option<&[u8]>) -> String {
 #[derive(Clone, Copy)]
 enum About {
     Op(&'static Op),
-    Common,
+    List(Kind),
     Malformed,
 }
 
@@ -122,7 +122,7 @@ impl About {
     fn name(self) -> &'static str {
         match self {
             About::Op(op) => op.name,
-            About::Common => common::NAME,
+            About::List(kind) => kind.name(),
             About::Malformed => "(malformed)",
         }
     }
@@ -131,7 +131,7 @@ impl About {
     fn refusals(self) -> Vec<u8> {
         match self {
             About::Op(op) => refusals::possible(op),
-            About::Common => common::REFUSALS.to_vec(),
+            About::List(kind) => kind.refusals().to_vec(),
             About::Malformed => Vec::new(),
         }
     }
@@ -139,7 +139,7 @@ impl About {
     fn arms(self) -> Vec<Arm> {
         match self {
             About::Op(op) => plan::arms(op),
-            About::Common => common::arms(),
+            About::List(kind) => kind.arms(),
             About::Malformed => Vec::new(),
         }
     }
@@ -147,13 +147,13 @@ impl About {
     fn gives(self) -> Option<Gives> {
         match self {
             About::Op(op) => Some(op.gives),
-            About::Common | About::Malformed => None,
+            About::List(_) | About::Malformed => None,
         }
     }
 }
 
-/// The counts of a whole run: a row for each operation, in port order, one for the lists of `common`,
-/// and one for malformed lines.
+/// The counts of a whole run: a row for each operation, in port order, one for each kind of question with
+/// a list, and one for malformed lines.
 pub struct Tally {
     rows: Vec<(About, Row)>,
     extra_lines: usize,
@@ -166,7 +166,7 @@ fn open(path: &str) -> io::Result<Lines<BufReader<File>>> {
 
 impl Tally {
     fn new() -> Self {
-        let about = ops::all().map(About::Op).chain([About::Common, About::Malformed]);
+        let about = ops::all().map(About::Op).chain(lists::ALL.map(About::List)).chain([About::Malformed]);
         Tally { rows: about.map(|about| (about, Row::default())).collect(), extra_lines: 0 }
     }
 
@@ -186,22 +186,22 @@ impl Tally {
     }
 
     fn add(&mut self, asked: &[u8], judge: Option<&[u8]>, other: Option<&[u8]>) {
-        let (list, read) = (common::read(asked), question::read(asked));
+        let (list, read) = (lists::read(asked), question::read(asked));
         let about = match (&list, &read) {
-            (Some(_), _) => About::Common,
+            (Some(list), _) => About::List(list.kind()),
             (_, Some(question)) => About::Op(question.op),
             _ => About::Malformed,
         };
         let row = self.row(about);
         row.asked += 1;
-        let numbers = list.as_ref().map(|list| &list.numbers).or(read.as_ref().map(|read| &read.numbers));
+        let numbers = list.as_ref().map(Asked::numbers).or(read.as_ref().map(|read| read.numbers.clone()));
         let Some(numbers) = numbers else {
             return row.add_answers(asked, judge, other, asked.len());
         };
         if judge == Some(NO_ANSWER) {
             row.lacking += 1;
         } else {
-            row.add_answers(asked, judge, other, weight(numbers));
+            row.add_answers(asked, judge, other, weight(&numbers));
         }
         if let Some(list) = &list {
             row.add_list(list);

@@ -1,8 +1,8 @@
 //! The stored questions of the program `ask`: for each operation boundary values in every place,
 //! every refusal and every arm several times, random questions, and malformed lines of every kind.
 
-use crate::common;
 use crate::draw::{self, EDGES, OUTSIDE};
+use crate::lists;
 use crate::malformed;
 use crate::ops::{self, Op, Role};
 use crate::plan::{self, Aim};
@@ -25,7 +25,9 @@ pub fn lines() -> Vec<Vec<u8>> {
         lines.extend(good(&mut rng, op));
         lines.extend(bad(&mut rng, op));
     }
-    lines.extend(common::stored::lines(&mut Rng::new(SEED, common::NAME)));
+    for kind in lists::ALL {
+        lines.extend(kind.stored(&mut Rng::new(SEED, kind.name())));
+    }
     lines.extend(long_lines());
     // The last line lacks its newline: see `bytes`.
     lines
@@ -133,7 +135,7 @@ fn bad(rng: &mut Rng, op: &'static Op) -> Vec<Vec<u8>> {
         .collect()
 }
 
-/// Lines longer than any question of these layers. The longest ones are tried by `oracle/edges`.
+/// Long lines with hardly a space. The longest ones are tried by `oracle/edges`.
 fn long_lines() -> Vec<Vec<u8>> {
     vec![vec![b'0'; 5_000], b"remainder ".iter().copied().chain([b'0'; 4_096]).collect()]
 }

@@ -3,11 +3,13 @@
 // number and the result; a line that is no question is answered `?`.
 //
 // This file has the stream of lines. parse.rt reads a line, a file for each layer (line.rt, circle.rt,
-// rect.rt, common.rt) has that layer's questions, and print.rt writes an answer (reply.rt) as text.
+// rect.rt, common.rt, points.rt) has that layer's questions, and print.rt writes an answer (reply.rt) as
+// text.
 mod circle;
 mod common;
 mod line;
 mod parse;
+mod points;
 mod print;
 mod rect;
 mod reply;
@@ -144,7 +146,8 @@ fn make_room(at: usize, out: &mut [u8]) -> usize
     at
 }
 
-// The answer to a line. `rect.vertex` is apart, since its last operand is written in two digits.
+// The answer to a line. Apart are `rect.vertex`, whose last operand is written in two digits, and
+// `growth` and `scan`, whose last operand is a list.
 fn answer(s: &[u8]) -> Reply {
     if s.len() > LONGEST {
         return Reply::Unknown;
@@ -153,6 +156,10 @@ fn answer(s: &[u8]) -> Reply {
     let name = &s[..end];
     if check::same(name, b"rect.vertex") {
         return rect::vertex(&s[end..]);
+    }
+    let scans = check::same(name, b"scan");
+    if scans | check::same(name, b"growth") {
+        return points::reply(scans, &s[end..]);
     }
     let mut x = [0.0; parse::MOST];
     let count = parse::numbers(&s[end..], &mut x);

@@ -17,7 +17,7 @@ use s2::rect::PointAnswer;
 use s2::rect::Rect;
 
 // The bytes of a rectangle's four numbers.
-const FOUR: usize = 4 * WORD;
+pub const FOUR: usize = 4 * WORD;
 
 // The answer to a question of this layer, but for `rect.vertex`. Operands come as they are asked with,
 // unread: two rectangles a and b, then the errors; in the place of b a point or margins p; in the place
@@ -178,7 +178,7 @@ fn compared(name: &[u8], count: usize, a: Rect, b: Rect, max_error: LatLng) -> R
 }
 
 // A rectangle by its ends, in the order of a question's numbers.
-fn bounds(south: f64, north: f64, west: f64, east: f64) -> Rect {
+pub(crate) fn bounds(south: f64, north: f64, west: f64, east: f64) -> Rect {
     Rect {
         lat: Line {
             lo: south,
@@ -192,7 +192,7 @@ fn standard(r: Rect) -> Reply {
     Reply::Four(ACCEPTED, r.lat.lo, r.lat.hi, r.lng.lo, r.lng.hi)
 }
 
-fn rect(a: Answer) -> Reply {
+pub(crate) fn rect(a: Answer) -> Reply {
     let r = a.value;
     Reply::Four(a.refusal, r.lat.lo, r.lat.hi, r.lng.lo, r.lng.hi)
 }

@@ -3,9 +3,9 @@
 use mathlib.Core.Path.{_≡_, refl, sym, _∙_, subst}
 use mathlib.Core.Bool.{true, false, not}
 use Prim.Native.Nat.{ℕ, _<_, _^_}
-use lib.Dec.{T}
+use lib.Dec.{T, lit<}
 use lib.Ieee.{Float, nan, inf, fin, binary64, fits, isNan, nanBits, ofBits, toBits}
-use lib.Ieee.Bits.{ofBits-toBits, toBits-ofBits, nanBits-is}
+use lib.Ieee.Bits.{ofBits-toBits, toBits-ofBits, toBits-lt, nanBits-is}
 use Rattle.bits.specs.Pattern.{ofPattern, toPattern}
 
 -- a double that is no NaN, whose pattern then is no NaN's either
@@ -26,3 +26,10 @@ unfolding toPattern ofPattern
 written-read n below h =
     let k : isNan (ofBits binary64 n) ≡ false = sym (nanBits-is binary64 n) ∙ h in
     simp (h, k, toBits-ofBits binary64 n below (subst (λ b. T (not b)) (sym k) tt))
+
+-- a pattern has 64 bits
+pub pattern-lt : (x : Float) → fits binary64 x ≡ true → toPattern x < 2 ^ 64
+unfolding toPattern isNan
+pattern-lt nan h = lit< tt
+pattern-lt (inf s) h = toBits-lt binary64 (inf s) (subst T (sym h) tt)
+pattern-lt (fin s m e) h = toBits-lt binary64 (fin s m e) (subst T (sym h) tt)

@@ -8,3 +8,4 @@ pub mod Multiples
 pub mod Remainders
 pub mod Turns
 pub mod Examples
+pub mod Determined

@@ -1,5 +1,5 @@
 -- The smaller and the larger of two doubles, and a double's size, written out: what Rust's `f64::min`, `max` and `abs` answer where no NaN comes in,
--- zeros of either sign being one number. Definitions only; the laws are in proofs/Choice.antt.
+-- zeros of either sign being one number. Definitions only; the laws are in proofs/Choices.antt.
 use mathlib.Core.Bool.{cond}
 use lib.Ieee.{Float, binary64, ofBits, lt, neg}
 

@@ -1,6 +1,6 @@
 -- The line's Hausdorff answer: document 01's number and value of the case that is answered are the crate's, infinity standing for Unbounded.
 -- Both definitions choose by the same two tests. Assumes nothing.
-use mathlib.Core.Path.{_≡_, refl, ap, _∙_}
+use mathlib.Core.Path.{_≡_, refl, sym, ap, _∙_}
 use mathlib.Core.Bool.{Bool, true, false, cond}
 use Prim.Native.Nat.{ℕ}
 use lib.Dec.{eqb}
@@ -40,3 +40,7 @@ hausdorff-is i o a h =
       answer = h;
       meaning = ap hausdorffNumber h ∙ number-is (readTwo i o .refusal) _ _ (distance-is (readTwo i o .left) (readTwo i o .right));
     }
+
+-- two answers that the contract allows coincide
+pub one-hausdorff : (i o : Interval) (a b : Hausdorff) → IsHausdorff i o a → IsHausdorff i o b → a ≡ b
+one-hausdorff i o a b p q = p .answer ∙ sym (q .answer)

@@ -4,7 +4,8 @@
 use std::f64::consts::{FRAC_PI_2, PI};
 
 use super::{circle, neighbour, outside, rect};
-use crate::common::{self, Asked, MOST_NUMBERS, MOST_RECTS, SHORT};
+use crate::common::{self, Asked, MOST_NUMBERS, MOST_RECTS};
+use crate::lists::SHORT;
 use crate::ops::Role;
 use crate::refusals::{fault, NOT_VALID, OUT_OF_REACH};
 use crate::rng::Rng;
@@ -14,7 +15,7 @@ type Rect = [f64; 4];
 /// A question with a list of at most eight entries.
 pub fn short(rng: &mut Rng) -> Asked {
     let count = rng.below(SHORT + 1);
-    let mut rects = related(rng, count);
+    let mut rects = few(rng, count);
     if rng.percent(8) && !rects.is_empty() {
         let (at, number) = (rng.below(count), rng.pick(&[OUT_OF_REACH, NOT_VALID]));
         rects[at] = bad(rng, number);
@@ -35,7 +36,7 @@ pub fn long(rng: &mut Rng) -> Asked {
         2 => MOST_RECTS + 1,
         _ => SHORT + 1 + rng.below(MOST_RECTS - SHORT),
     };
-    let numbers = if rng.percent(70) { notched(rng, count).concat() } else { related(rng, count).concat() };
+    let numbers = many(rng, count).concat();
     let room = room(rng, &numbers);
     Asked { room, numbers }
 }
@@ -54,8 +55,17 @@ fn room(rng: &mut Rng, numbers: &[f64]) -> usize {
     room.min(MOST_NUMBERS)
 }
 
+/// Valid rectangles, mostly with a notch of their own each: so as many as these have places in common.
+pub fn many(rng: &mut Rng, count: usize) -> Vec<Rect> {
+    if rng.percent(70) {
+        notched(rng, count)
+    } else {
+        few(rng, count)
+    }
+}
+
 /// Valid rectangles that have to do with one another.
-fn related(rng: &mut Rng, count: usize) -> Vec<Rect> {
+pub fn few(rng: &mut Rng, count: usize) -> Vec<Rect> {
     let mut rects = match rng.below(10) {
         0 => freely(rng, count),
         1..=4 => notched(rng, count),

@@ -12,16 +12,16 @@ use crate::refusals::rect_is_valid;
 use crate::rng::Rng;
 
 /// A rectangle: lat.lo, lat.hi, lng.lo, lng.hi.
-type Rect = [f64; 4];
+pub type Rect = [f64; 4];
 
 fn lng(rect: Rect) -> Arc {
     [rect[2], rect[3]]
 }
 
 /// A place of the globe.
-type At = (f64, Place);
+pub type At = (f64, Place);
 
-fn held(rect: Rect, (lat, lng_place): At) -> bool {
+pub fn held(rect: Rect, (lat, lng_place): At) -> bool {
     rect[0] <= lat && lat <= rect[1] && holds(lng(rect), lng_place)
 }
 
@@ -36,7 +36,7 @@ fn telling_lats(numbers: &[f64]) -> Vec<f64> {
 }
 
 /// Places enough to tell these rectangles apart.
-fn telling_places(rects: &[Rect]) -> Vec<At> {
+pub fn telling_places(rects: &[Rect]) -> Vec<At> {
     let lats = telling_lats(&rects.iter().flat_map(|rect| [rect[0], rect[1]]).collect::<Vec<_>>());
     let mut lngs = telling(&rects.iter().flat_map(|rect| lng(*rect)).collect::<Vec<_>>());
     lngs.sort();

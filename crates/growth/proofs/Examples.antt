@@ -1,0 +1,98 @@
+-- Worked examples, computed by the definitions: what growth by a list answers and what the scan worker leaves, refusals included. The start of most is the
+-- rectangle of the latitudes and the longitudes [0, 1] with its zeros written -0, so that kept bits show. Assumes nothing.
+use mathlib.Core.Path.{_≡_, refl}
+use mathlib.Core.List.{[], _∷_}
+use lib.Ieee as Ieee
+use lib.Ieee.{Float, binary64, ofBits, nan, lt, le, eq}
+use Rattle.consts.specs.Constants.{PI, NEG-PI}
+use Rattle.consts.specs.Refusal.{firstRefusal}
+use Rattle.consts.specs.Reading.{inReach, plain}
+use Rattle.r1.specs.Line as line
+use Rattle.s1.specs.Circle as circle
+use Rattle.s1.specs.Circle.{fast, seam, distance}
+use Rattle.s1.specs.Reading.{onCircle}
+use Rattle.s2.specs.declared.rect.Rect.{Rect}
+use Rattle.s2.specs.Rect.{at, box, EMPTY, latitude, valid, validPoint, grown}
+use Rattle.s2.specs.Reading.{rectInReach, asRead, readOne, readPoint}
+use Rattle.s2.specs.Answers.{rectAnswer, emptyUnder, add}
+use Rattle.growth.specs.Growth.{pointsOf, wholePoints, under, firstBad, grownAll, grownFrom, grownByPoints, grownBy}
+use Rattle.growth.specs.Scan.{enlarged, enlargedAll, scannedFrom, scanned}
+
+-- numbers by their bits: 0, -0, 0.5, -0.5, 1, 2, 4
+abbrev zero : Float
+zero = ofBits binary64 0
+
+abbrev minus : Float
+minus = ofBits binary64 0x8000000000000000
+
+abbrev half : Float
+half = ofBits binary64 0x3FE0000000000000
+
+abbrev west : Float
+west = ofBits binary64 0xBFE0000000000000
+
+abbrev one : Float
+one = ofBits binary64 0x3FF0000000000000
+
+abbrev two : Float
+two = ofBits binary64 0x4000000000000000
+
+abbrev four : Float
+four = ofBits binary64 0x4010000000000000
+
+abbrev square : Float → Float → Rect
+square a b = box (line.ends a b) (circle.ends a b)
+
+abbrev start : Rect
+start = square minus one
+
+-- not valid, and out of reach
+abbrev tall : Rect
+tall = square minus two
+
+abbrev unknown : Rect
+unknown = square nan one
+
+pub record Examples : Type 0 where
+  -- two points enlarge the start in turn: the second moves the western edge, which is nearer
+  pub grows : grownBy start (half ∷ two ∷ one ∷ west ∷ []) ≡ rectAnswer (box (line.ends zero one) (circle.ends west two))
+  -- the standard empty grown by the longitude -PI holds the seam, written PI
+  pub seam-grows : grownBy EMPTY (zero ∷ NEG-PI ∷ []) ≡ rectAnswer (box (line.ends zero zero) (circle.ends PI PI))
+  -- by no point the start is answered as it is read
+  pub no-points : grownBy start [] ≡ rectAnswer (square zero one)
+  -- the longitude 4 is no point: the whole list is refused with 3, and the start keeps its bits
+  pub bad-point : grownBy start (half ∷ two ∷ one ∷ four ∷ []) ≡ under 3 start
+  -- 1 and 2 of the start come before 3, and answer the standard empty
+  pub bad-start : grownBy unknown (one ∷ four ∷ []) ≡ emptyUnder 1
+  pub tall-start : grownBy tall (one ∷ four ∷ []) ≡ emptyUnder 2
+  -- 5 comes before all, and hands back even a start that is not valid
+  pub half-point : grownBy start (one ∷ []) ≡ under 5 start
+  pub half-point-first : grownBy unknown (one ∷ []) ≡ under 5 unknown
+  -- the worker: growth's number, and what is left in the box
+  pub enlarges : enlarged start (at half two) ≡ under 0 (box (line.ends zero one) (circle.ends zero two))
+  pub leaves-bad-point : enlarged start (at one four) ≡ under 3 start
+  pub leaves-bad-box : enlarged tall (at half half) ≡ under 2 tall
+  pub leaves-bad-list : enlargedAll start (half ∷ two ∷ one ∷ four ∷ []) ≡ under 3 start
+  -- points one by one: the bad one is passed over, and its number is kept
+  pub scans : scanned start (half ∷ two ∷ one ∷ four ∷ half ∷ half ∷ []) ≡ under 3 (box (line.ends zero one) (circle.ends zero two))
+  pub scans-nothing : scanned start [] ≡ under 0 start
+
+pub examples : Examples
+unfolding grownBy grownByPoints grownFrom wholePoints pointsOf firstBad firstRefusal grownAll add enlarged enlargedAll scannedFrom scanned readOne readPoint asRead rectInReach valid validPoint latitude onCircle inReach plain grown line.grown line.empty circle.grown circle.valid circle.empty fast seam distance ofBits lt le eq Ieee.add Ieee.sub
+examples =
+    record {
+      grows = refl;
+      seam-grows = refl;
+      no-points = refl;
+      bad-point = refl;
+      bad-start = refl;
+      tall-start = refl;
+      half-point = refl;
+      half-point-first = refl;
+      enlarges = refl;
+      leaves-bad-point = refl;
+      leaves-bad-box = refl;
+      leaves-bad-list = refl;
+      scans = refl;
+      scans-nothing = refl;
+    }

@@ -1,0 +1,330 @@
+-- What growth by a list means: it is growth by the points one by one, first to last; which refusal comes first, and what a refusal hands back; an accepted
+-- growth is valid and holds the start and each point. And what the scan worker leaves in the lent box.
+-- The idea: a valid rectangle grown by a valid point is valid and has no negative zero (the crate s2), so that to read it again changes nothing, and growth
+-- on what has been read goes side by side with the public growth. Assumes nothing.
+use mathlib.Core.Path.{_≡_, refl, sym, ap, _∙_, subst}
+use mathlib.Core.Bool.{Bool, true, false, cond}
+use mathlib.Core.List.{List, [], _∷_}
+use mathlib.Core.Logic.{_⊎_, inl, inr, _↔_}
+use Prim.Native.Nat.{ℕ}
+use native.Mathlib.Omega.{arith}
+use borrow.Author.Tests.{eqb-true, eq-eqb, ne-eqb}
+use lib.Dec.{eqb}
+use lib.Ieee.{Float}
+use Rattle.order.proofs.Ranks.{and-l, and-r}
+use Rattle.consts.specs.Refusal.{number, accepted, outOfReach, notValid, badPoint, badList, firstRefusal, given}
+use Rattle.consts.specs.Reading.{inReach}
+use Rattle.consts.proofs.Readings.{plain-plain}
+use Rattle.s1.specs.Circle as circle
+use Rattle.s1.specs.Circle.{seam}
+use Rattle.s2.specs.declared.latlng.LatLng.{LatLng}
+use Rattle.s2.specs.declared.rect.Rect.{Rect}
+use Rattle.s2.specs.declared.rect.Answer.{Answer}
+use Rattle.s2.specs.Rect.{at, validLatitudes, valid, validPoint, grown}
+use Rattle.s2.specs.Reading.{rectInReach, asRead, plainPoint, readOne, readPoint}
+use Rattle.s2.specs.Answers.{rectAnswer, emptyUnder, add}
+use Rattle.s2.specs.Places.{Valid, ValidPoint, holds, Inside}
+use Rattle.s2.proofs.Readings.{one-in, one-out, one-not-valid, point-in, point-bad, valid-read, holds-read}
+use Rattle.s2.proofs.Accepted.{add-is}
+use Rattle.s2.proofs.Valid.{add-valid}
+use Rattle.s2.proofs.Zeros.{NoMinusRect, add-plain}
+use Rattle.s2.proofs.Differences.{add-out, add-not-valid}
+use Rattle.s2.proofs.Places.{point-place, add-holds, add-refused}
+use Rattle.growth.specs.Growth.{pointsOf, wholePoints, under, firstBad, grownAll, grownFrom, grownByPoints, grownBy, oneByOne, wholeOrNone}
+use Rattle.growth.specs.Scan.{enlarged, enlargedAll, scannedFrom, scanned}
+use Rattle.growth.specs.Points.{Doubles, DoublePoint, All, Among, first, later}
+
+-- ---- within the limits
+pub valid-of : (r : Rect) → Doubles r → rectInReach r ≡ true → valid r ≡ true → Valid r
+unfolding rectInReach valid
+valid-of r d k h =
+    let reach = and-l _ _ (and-l _ _ k) in
+    record {
+      lat-reach = record {
+        lo-place = record { is-double = d .lat-lo; in-reach = and-l _ _ reach };
+        hi-place = record { is-double = d .lat-hi; in-reach = and-r (inReach (r .lat .lo)) _ reach };
+      };
+      lng-valid = record { lo-double = d .lng-lo; hi-double = d .lng-hi; is-valid = and-r (validLatitudes (r .lat)) (circle.valid (r .lng)) (and-l _ _ h) };
+      is-valid = h;
+    }
+
+point-of : (p : LatLng) → DoublePoint p → validPoint p ≡ true → ValidPoint p
+point-of p d h = record { lat-double = d .lat-double; lng-double = d .lng-double; is-valid = h }
+
+-- ---- a rectangle with no negative zero is its own reading, and a reading has none
+read-same : (r : Rect) → NoMinusRect r → asRead r ≡ r
+unfolding asRead
+read-same r m = λ i. record { lat = record { lo = m .0 .0 i; hi = m .0 .1 i }; lng = record { lo = m .1 .0 i; hi = m .1 .1 i } }
+
+read-plain : (r : Rect) → NoMinusRect (asRead r)
+unfolding asRead
+read-plain r = ((plain-plain (r .lat .lo), plain-plain (r .lat .hi)), (plain-plain (r .lng .lo), plain-plain (r .lng .hi)))
+
+-- so what is grown by a point is what the public growth answers, read again
+grown-read : (r : Rect) (p : LatLng) → Valid r → ValidPoint p → grown (asRead r) (plainPoint p) ≡ asRead (add r p .value)
+grown-read r p v q = sym (read-same (add r p .value) (add-plain r v p q) ∙ ap (λ (a : Answer). a .value) (add-is r v p q))
+
+-- ---- one point more, of a valid rectangle
+module _ (s r : Rect) (v : Valid r) (p : LatLng) (l : List LatLng) where
+  -- a good one is grown by
+  module _ (q : ValidPoint p) where
+    one-more : oneByOne r (p ∷ l) ≡ oneByOne (add r p .value) l
+    unfolding oneByOne
+    one-more = simp (add-is r v p q)
+
+    from-more : grownFrom s (asRead r) (p ∷ l) ≡ grownFrom s (asRead (add r p .value)) l
+    unfolding grownFrom firstBad firstRefusal grownAll
+    from-more = simp (point-in p q) (ap (λ (x : Rect). grownFrom s x l) (grown-read r p v q))
+
+  -- a bad one refuses
+  module _ (h : validPoint p ≡ false) where
+    one-bad : oneByOne r (p ∷ l) ≡ under (number badPoint) r
+    unfolding oneByOne
+    one-bad = simp (add-refused r p v h)
+
+    from-bad : grownFrom s (asRead r) (p ∷ l) ≡ under (number badPoint) s
+    unfolding grownFrom firstBad firstRefusal
+    from-bad = simp (point-bad p h)
+
+from-one-by-one : (s r : Rect) (ps : List LatLng) → Valid r → All DoublePoint ps → grownFrom s (asRead r) ps ≡ wholeOrNone s (oneByOne r ps)
+unfolding grownFrom firstBad grownAll oneByOne wholeOrNone
+from-one-by-one s r [] v d = simp (one-in r v)
+from-one-by-one s r (p ∷ l) v d = go (validPoint p) refl (λ q. from-one-by-one s (add r p .value) l (add-valid v q) (d .1))
+  where
+    go : (t : Bool) → validPoint p ≡ t → (ValidPoint p → grownFrom s (asRead (add r p .value)) l ≡ wholeOrNone s (oneByOne (add r p .value) l))
+        → grownFrom s (asRead r) (p ∷ l) ≡ wholeOrNone s (oneByOne r (p ∷ l))
+    go true e ih = let q = point-of p (d .0) e in from-more s r v p l q ∙ ih q ∙ ap (wholeOrNone s) (sym (one-more s r v p l q))
+    go false e ih = from-bad s r v p l e ∙ ap (wholeOrNone s) (sym (one-bad s r v p l e))
+
+-- ---- a start that is refused itself: 1 or 2, and the standard empty, whatever the points are
+module _ (r : Rect) (ps : List LatLng) where
+  points-out : rectInReach r ≡ false → grownByPoints r ps ≡ emptyUnder (number outOfReach)
+  unfolding grownByPoints
+  points-out h = simp (one-out r h)
+
+  points-not-valid : rectInReach r ≡ true → valid r ≡ false → grownByPoints r ps ≡ emptyUnder (number notValid)
+  unfolding grownByPoints
+  points-not-valid k h = simp (one-not-valid r k h)
+
+one-by-one-out : (r : Rect) (ps : List LatLng) → rectInReach r ≡ false → oneByOne r ps ≡ emptyUnder (number outOfReach)
+unfolding oneByOne
+one-by-one-out r [] h = simp (one-out r h)
+one-by-one-out r (p ∷ l) h = simp (add-out r p h)
+
+one-by-one-not-valid : (r : Rect) (ps : List LatLng) → rectInReach r ≡ true → valid r ≡ false → oneByOne r ps ≡ emptyUnder (number notValid)
+unfolding oneByOne
+one-by-one-not-valid r [] k h = simp (one-not-valid r k h)
+one-by-one-not-valid r (p ∷ l) k h = simp (add-not-valid r p k h)
+
+points-valid : (r : Rect) (ps : List LatLng) → Valid r → grownByPoints r ps ≡ grownFrom r (asRead r) ps
+unfolding grownByPoints
+points-valid r ps v = simp (one-in r v)
+
+-- ---- growth by a list is growth by its points one by one, first to last: the same number; where it is accepted, the same rectangle; under 1 and 2 the
+-- standard empty. Under 3 the whole list is refused, and the start comes back
+pub one-by-one : (r : Rect) (l : List Float) → Doubles r → All DoublePoint (pointsOf l) → wholePoints l ≡ true → grownBy r l ≡ wholeOrNone r (oneByOne r (pointsOf l))
+unfolding grownBy wholeOrNone
+one-by-one r l d e w = rw w (go (rectInReach r) (valid r) refl refl)
+  where
+    go : (a b : Bool) → rectInReach r ≡ a → valid r ≡ b → grownByPoints r (pointsOf l) ≡ wholeOrNone r (oneByOne r (pointsOf l))
+    go true true k h = let v = valid-of r d k h in points-valid r (pointsOf l) v ∙ from-one-by-one r r (pointsOf l) v e
+    go true false k h = points-not-valid r (pointsOf l) k h ∙ ap (wholeOrNone r) (sym (one-by-one-not-valid r (pointsOf l) k h))
+    go false b k h = points-out r (pointsOf l) k ∙ ap (wholeOrNone r) (sym (one-by-one-out r (pointsOf l) k))
+
+number-kept : (r : Rect) (a : Answer) → wholeOrNone r a .refusal ≡ a .refusal
+unfolding wholeOrNone
+number-kept r a = go (eqb (a .refusal) 3) (eqb-true (a .refusal) 3)
+  where
+    go : (t : Bool) → (t ≡ true → a .refusal ≡ 3) → cond t (under (number badPoint) r) a .refusal ≡ a .refusal
+    go true h = sym (h refl)
+    go false h = refl
+
+accepted-kept : (r : Rect) (a : Answer) → a .refusal ≡ 0 → wholeOrNone r a ≡ a
+unfolding wholeOrNone
+accepted-kept r a h = rw h refl
+
+pub one-by-one-number : (r : Rect) (l : List Float) → Doubles r → All DoublePoint (pointsOf l) → wholePoints l ≡ true → grownBy r l .refusal ≡ oneByOne r (pointsOf l) .refusal
+one-by-one-number r l d e w = ap (λ (a : Answer). a .refusal) (one-by-one r l d e w) ∙ number-kept r (oneByOne r (pointsOf l))
+
+pub one-by-one-accepted : (r : Rect) (l : List Float) → Doubles r → All DoublePoint (pointsOf l) → wholePoints l ≡ true → grownBy r l .refusal ≡ 0 → grownBy r l ≡ oneByOne r (pointsOf l)
+one-by-one-accepted r l d e w h = one-by-one r l d e w ∙ accepted-kept r (oneByOne r (pointsOf l)) (sym (one-by-one-number r l d e w) ∙ h)
+
+-- by a list of one point it is the public growth by that point, for any numbers whatever
+pub one-point : (r : Rect) (a b : Float) → grownBy r (a ∷ (b ∷ [])) ≡ add r (at a b)
+unfolding grownBy grownByPoints grownFrom wholePoints pointsOf firstBad firstRefusal grownAll add readOne readPoint
+one-point r a b = ap (λ (x : Answer). given (readOne r .refusal) x (emptyUnder (readOne r .refusal))) (go (validPoint (at a b)))
+  where
+    by-number : ℕ → Answer
+    by-number n = given n (rectAnswer (grown (asRead r) (plainPoint (at a b)))) (under n r)
+
+    go : (t : Bool) → by-number (firstRefusal (cond t (number accepted) (number badPoint)) (number accepted)) ≡ by-number (cond t (number accepted) (number badPoint))
+    go true = refl
+    go false = refl
+
+-- ---- refusals, in their order
+-- 5 comes first and hands the start back as it came, whatever it is
+pub list-refused : (r : Rect) (l : List Float) → wholePoints l ≡ false → grownBy r l ≡ under (number badList) r
+unfolding grownBy
+list-refused r l w = simp w
+
+-- then the start's 1 or 2, whatever the points are
+pub start-out-of-reach : (r : Rect) (l : List Float) → wholePoints l ≡ true → rectInReach r ≡ false → grownBy r l ≡ emptyUnder (number outOfReach)
+unfolding grownBy
+start-out-of-reach r l w h = rw w (points-out r (pointsOf l) h)
+
+pub start-not-valid : (r : Rect) (l : List Float) → wholePoints l ≡ true → rectInReach r ≡ true → valid r ≡ false → grownBy r l ≡ emptyUnder (number notValid)
+unfolding grownBy
+start-not-valid r l w k h = rw w (points-not-valid r (pointsOf l) k h)
+
+-- then 3 where one of the points is bad: the start comes back as it came
+bad-among : {p : LatLng} {ps : List LatLng} → Among p ps → validPoint p ≡ false → firstBad ps ≡ number badPoint
+unfolding firstBad firstRefusal readPoint
+bad-among first h = simp h
+bad-among (later {q} {l} m) h = go (validPoint q) (bad-among m h)
+  where
+    go : (t : Bool) → firstBad l ≡ number badPoint → firstRefusal (cond t (number accepted) (number badPoint)) (firstBad l) ≡ number badPoint
+    go true ih = ih
+    go false ih = refl
+
+first-bad : (r : Rect) (l : List Float) → wholePoints l ≡ true → Valid r → firstBad (pointsOf l) ≡ number badPoint → grownBy r l ≡ under (number badPoint) r
+unfolding grownBy grownFrom
+first-bad r l w v h = rw w (points-valid r (pointsOf l) v ∙ simp h)
+
+pub bad-point : (r : Rect) (l : List Float) → wholePoints l ≡ true → Valid r → (p : LatLng) → Among p (pointsOf l) → validPoint p ≡ false → grownBy r l ≡ under (number badPoint) r
+bad-point r l w v p m h = first-bad r l w v (bad-among m h)
+
+-- ---- accepted exactly when the list is of whole points, the start valid and each point valid
+pub record Accepted (r : Rect) (l : List Float) : Type 0 where
+  pub whole : wholePoints l ≡ true
+  pub start : Valid r
+  pub points : All ValidPoint (pointsOf l)
+
+-- each point is valid, or the list has a bad one
+points-decided : (ps : List LatLng) → All DoublePoint ps → (All ValidPoint ps × (firstBad ps ≡ number accepted)) ⊎ (firstBad ps ≡ number badPoint)
+unfolding firstBad firstRefusal readPoint
+points-decided [] d = inl (tt, refl)
+points-decided (p ∷ l) d = go (validPoint p) refl (points-decided l (d .1))
+  where
+    go : (t : Bool) → validPoint p ≡ t → (All ValidPoint l × (firstBad l ≡ number accepted)) ⊎ (firstBad l ≡ number badPoint)
+        → (All ValidPoint (p ∷ l) × (firstRefusal (cond t (number accepted) (number badPoint)) (firstBad l) ≡ number accepted)) ⊎ (firstRefusal (cond t (number accepted) (number badPoint)) (firstBad l) ≡ number badPoint)
+    go true e (inl ih) = inl ((point-of p (d .0) e, ih .0), ih .1)
+    go true e (inr ih) = inr ih
+    go false e ih = inr refl
+
+good-points : (ps : List LatLng) → All ValidPoint ps → firstBad ps ≡ number accepted
+unfolding firstBad firstRefusal
+good-points [] q = refl
+good-points (p ∷ l) q = simp (point-in p (q .0)) (good-points l (q .1))
+
+-- what is then answered
+pub accepted-is : (r : Rect) (l : List Float) → Accepted r l → grownBy r l ≡ rectAnswer (grownAll (asRead r) (pointsOf l))
+unfolding grownBy grownFrom
+accepted-is r l a = rw (a .whole) (points-valid r (pointsOf l) (a .start) ∙ simp (good-points (pointsOf l) (a .points)))
+
+only-accepted : (r : Rect) (l : List Float) → Doubles r → All DoublePoint (pointsOf l) → grownBy r l .refusal ≡ 0 → Accepted r l
+only-accepted r l d e h = go (wholePoints l) (rectInReach r) (valid r) refl refl refl (points-decided (pointsOf l) e)
+  where
+    number-is : {x : Answer} → grownBy r l ≡ x → x .refusal ≡ 0
+    number-is q = ap (λ (a : Answer). a .refusal) (sym q) ∙ h
+
+    go : (t a b : Bool) → wholePoints l ≡ t → rectInReach r ≡ a → valid r ≡ b → (All ValidPoint (pointsOf l) × (firstBad (pointsOf l) ≡ number accepted)) ⊎ (firstBad (pointsOf l) ≡ number badPoint) → Accepted r l
+    go true true true w k v (inl p) = record { whole = w; start = valid-of r d k v; points = p .0 }
+    go true true true w k v (inr p) = absurd (omega (arith, number-is (first-bad r l w (valid-of r d k v) p)))
+    go true true false w k v p = absurd (omega (arith, number-is (start-not-valid r l w k v)))
+    go true false b w k v p = absurd (omega (arith, number-is (start-out-of-reach r l w k)))
+    go false a b w k v p = absurd (omega (arith, number-is (list-refused r l w)))
+
+pub accepted-exactly : (r : Rect) (l : List Float) → Doubles r → All DoublePoint (pointsOf l) → (grownBy r l .refusal ≡ 0) ↔ Accepted r l
+accepted-exactly r l d e = (only-accepted r l d e, λ a. ap (λ (x : Answer). x .refusal) (accepted-is r l a))
+
+-- ---- an accepted growth is valid, has no negative zero, and holds every place of the start and each of the points
+pub record Grown (g r : Rect) (ps : List LatLng) : Type 0 where
+  pub is-valid : Valid g
+  pub no-minus : NoMinusRect g
+  pub holds-start : Inside g r
+  pub holds-points : (p : LatLng) → Among p ps → holds g (p .lat) (seam (p .lng)) false ≡ true
+
+-- after one point more
+grown-more : (r : Rect) (p : LatLng) (l : List LatLng) (g : Rect) → Valid r → ValidPoint p → Grown g (add r p .value) l → Grown g r (p ∷ l)
+grown-more r p l g v q h =
+    let k = add-holds r p v q in
+    record {
+      is-valid = h .is-valid;
+      no-minus = h .no-minus;
+      holds-start = λ x at t c e. h .holds-start x at t c (k .0 x at t c e);
+      holds-points = go;
+    }
+  where
+    go : (o : LatLng) → Among o (p ∷ l) → holds g (o .lat) (seam (o .lng)) false ≡ true
+    go o first = h .holds-start (p .lat) (seam (p .lng)) false (point-place q) (add-holds r p v q .1)
+    go o (later m) = h .holds-points o m
+
+grown-holds : (r : Rect) (ps : List LatLng) → Valid r → All ValidPoint ps → Grown (grownAll (asRead r) ps) r ps
+unfolding grownAll
+grown-holds r [] v q = record { is-valid = valid-read v; no-minus = read-plain r; holds-start = λ x at g c h. holds-read r v x at g c ∙ h; holds-points = none }
+  where
+    none : (p : LatLng) → Among p [] → holds (asRead r) (p .lat) (seam (p .lng)) false ≡ true
+    none p = elim [ ]
+grown-holds r (p ∷ l) v q =
+    let e = ap (λ (x : Rect). grownAll x l) (grown-read r p v (q .0)) in
+    subst (λ (g : Rect). Grown g r (p ∷ l)) (sym e) (grown-more r p l _ v (q .0) (grown-holds (add r p .value) l (add-valid v (q .0)) (q .1)))
+
+pub growth-holds : (r : Rect) (l : List Float) → Accepted r l → Grown (grownBy r l .value) r (pointsOf l)
+growth-holds r l a = subst (λ (x : Answer). Grown (x .value) r (pointsOf l)) (sym (accepted-is r l a)) (grown-holds r (pointsOf l) (a .start) (a .points))
+
+-- ---- the scan worker
+-- any refusal leaves the lent box, and 0 stores what growth by value answers
+module _ (b : Rect) (p : LatLng) where
+  pub scan-refused : (add b p .refusal ≡ 0 → ⊥) → enlarged b p ≡ under (add b p .refusal) b
+  unfolding enlarged
+  scan-refused h = simp (ne-eqb (add b p .refusal) 0 h)
+
+  pub scan-accepted : add b p .refusal ≡ 0 → enlarged b p ≡ add b p
+  unfolding enlarged
+  scan-accepted h = simp (eq-eqb (add b p .refusal) 0 h)
+
+-- and so for a list
+module _ (b : Rect) (l : List Float) where
+  pub scan-list-refused : (grownBy b l .refusal ≡ 0 → ⊥) → enlargedAll b l ≡ under (grownBy b l .refusal) b
+  unfolding enlargedAll
+  scan-list-refused h = simp (ne-eqb (grownBy b l .refusal) 0 h)
+
+  pub scan-list-accepted : grownBy b l .refusal ≡ 0 → enlargedAll b l ≡ grownBy b l
+  unfolding enlargedAll
+  scan-list-accepted h = simp (eq-eqb (grownBy b l .refusal) 0 h)
+
+-- the points one by one: a list that growth refuses with 5 is refused so, and leaves the box
+pub scan-list-bad : (b : Rect) (l : List Float) → wholePoints l ≡ false → scanned b l ≡ under (number badList) b
+unfolding scanned
+scan-list-bad b l w = simp w
+
+-- by no point the box is left as it is; a bad point is passed over, and the scan goes on from the same box
+pub scan-nothing : (b : Rect) → scanned b [] ≡ under (number accepted) b
+unfolding scanned scannedFrom wholePoints pointsOf
+scan-nothing b = refl
+
+pub scan-passes : (n : ℕ) (b : Rect) (p : LatLng) (l : List LatLng) → Valid b → validPoint p ≡ false → scannedFrom n b (p ∷ l) ≡ scannedFrom (number badPoint) b l
+unfolding scannedFrom firstRefusal enlarged
+scan-passes n b p l v h = simp (add-refused b p v h)
+
+-- good points, one or more, from a valid box: the scan's box is that of growth by the list
+scan-more : (b : Rect) (p : LatLng) (l : List LatLng) → Valid b → ValidPoint p → scannedFrom 0 b (p ∷ l) ≡ scannedFrom 0 (add b p .value) l
+unfolding scannedFrom firstRefusal enlarged
+scan-more b p l v q = simp (add-is b v p q)
+
+scan-good : (b : Rect) (ps : List LatLng) → Valid b → NoMinusRect b → All ValidPoint ps → scannedFrom 0 b ps ≡ rectAnswer (grownAll (asRead b) ps)
+unfolding scannedFrom grownAll
+scan-good b [] v m q = ap rectAnswer (sym (read-same b m))
+scan-good b (p ∷ l) v m q =
+    scan-more b p l v (q .0) ∙ scan-good (add b p .value) l (add-valid v (q .0)) (add-plain b v p (q .0)) (q .1)
+    ∙ ap (λ (x : Rect). rectAnswer (grownAll x l)) (sym (grown-read b p v (q .0)))
+
+pub scan-grows : (b : Rect) (l : List Float) → Accepted b l → (p : LatLng) (ps : List LatLng) → pointsOf l ≡ p ∷ ps → scanned b l ≡ grownBy b l
+unfolding scanned grownAll
+scan-grows b l a p ps e =
+    let q : All ValidPoint (p ∷ ps) = subst (All ValidPoint) e (a .points) in
+    let v = a .start in
+    rw (a .whole) (
+    ap (scannedFrom 0 b) e ∙ scan-more b p ps v (q .0) ∙ scan-good (add b p .value) ps (add-valid v (q .0)) (add-plain b v p (q .0)) (q .1)
+    ∙ ap (λ (x : Rect). rectAnswer (grownAll x ps)) (sym (grown-read b p v (q .0)))
+    ∙ ap (λ (x : List LatLng). rectAnswer (grownAll (asRead b) x)) (sym e) ∙ sym (accepted-is b l a))

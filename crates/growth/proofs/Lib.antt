@@ -1,0 +1,4 @@
+pub mod Turns
+pub mod Boxes
+pub mod Laws
+pub mod Examples

@@ -1,0 +1,98 @@
+-- A turn of each loop, on plain lists: one point more is read, and what was done so far with what the rest comes to is the whole. Assumes nothing.
+use mathlib.Core.Path.{_≡_, refl, sym, ap, _∙_}
+use mathlib.Core.Bool.{true, false}
+use mathlib.Core.List.{List, [], _∷_}
+use Prim.Native.Nat.{ℕ, suc, _+_, _%_, _≤_, _<_}
+use native.Mathlib.Numerals.{add-one}
+use native.Mathlib.Omega.{arith}
+use lib.ListN.{length, drop}
+use lib.Seq.{drop-cons, drop-length}
+use borrow.Author.Tests.{le-leb, lt-leb, eq-eqb, ne-eqb}
+use lib.Ieee.{Float, nan}
+use Rattle.consts.specs.Refusal.{firstRefusal, given}
+use Rattle.s2.specs.declared.latlng.LatLng.{LatLng}
+use Rattle.s2.specs.declared.rect.Rect.{Rect}
+use Rattle.s2.specs.declared.rect.Answer.{Answer}
+use Rattle.s2.specs.declared.reading.One.{One}
+use Rattle.s2.specs.declared.reading.Pair.{Pair}
+use Rattle.s2.specs.Rect.{grown}
+use Rattle.s2.specs.Reading.{readOne, readPoint}
+use Rattle.s2.specs.Answers.{rectAnswer, emptyUnder}
+use Rattle.growth.specs.Scan.{enlarged, scannedFrom, scanned}
+use Rattle.growth.specs.Growth.{pointsOf, pointAt, wholePoints, under, firstBad, grownAll, grownFrom, grownByPoints, grownBy}
+
+-- ---- the list of numbers: one point more, or none
+pub two : (l : List Float) (i : ℕ) → i + 1 < length l → pointsOf (drop i l) ≡ pointAt l i ∷ pointsOf (drop (i + 2) l)
+unfolding pointsOf
+two l i h = rw (drop-cons l i nan (omega arith), drop-cons l (suc i) nan (omega arith)) (rw (add-one i, more i) refl)
+  where
+    more : (k : ℕ) → k + 2 ≡ suc (suc k)
+    more k = omega arith
+
+pub none-left : (l : List Float) → pointsOf (drop (length l) l) ≡ []
+unfolding pointsOf
+none-left l = rw (drop-length l) refl
+
+-- ---- whole points, or not
+pub whole : (l : List Float) → length l % 2 ≡ 0 → length l ≤ 8192 → wholePoints l ≡ true
+unfolding wholePoints
+whole l e h = simp (eq-eqb _ _ e, le-leb _ _ h)
+
+pub odd : (l : List Float) → (length l % 2 ≡ 0 → ⊥) → wholePoints l ≡ false
+unfolding wholePoints
+odd l h = simp (ne-eqb _ _ h)
+
+pub long : (l : List Float) → length l % 2 ≡ 0 → 8192 < length l → wholePoints l ≡ false
+unfolding wholePoints
+long l e h = simp (eq-eqb _ _ e, lt-leb _ _ h)
+
+-- ---- growth: the start's refusal, then a turn, then the end
+module _ (r : Rect) (l : List Float) (w : wholePoints l ≡ true) (x : One) (e : x ≡ readOne r) where
+  -- the answer by what reading the start gave
+  abbrev by-start : One → Answer
+  by-start y = given (y .refusal) (grownFrom r (y .value) (pointsOf l)) (emptyUnder (y .refusal))
+
+  pub start-refused : (x .refusal ≡ 0 → ⊥) → grownBy r l ≡ emptyUnder (x .refusal)
+  unfolding grownBy grownByPoints readOne
+  start-refused k = rw w (ap by-start (sym e) ∙ rw (ne-eqb (x .refusal) 0 k) refl)
+
+  pub start-read : x .refusal ≡ 0 → grownBy r l ≡ grownFrom r (x .value) (pointsOf l)
+  unfolding grownBy grownByPoints readOne
+  start-read k = rw w (ap by-start (sym e) ∙ rw (eq-eqb (x .refusal) 0 k) refl)
+
+module _ (r q : Rect) (l : List Float) (i : ℕ) (h : i + 1 < length l) (p : Pair) (e : p ≡ readPoint (pointAt l i)) where
+  abbrev rest : List LatLng
+  rest = pointsOf (drop (i + 2) l)
+
+  -- the answer by what reading the point gave
+  abbrev by-point : Pair → Answer
+  by-point y = let n = firstRefusal (y .refusal) (firstBad rest) in given n (rectAnswer (grownAll (grown q (y .value)) rest)) (under n r)
+
+  pub grow-turn : p .refusal ≡ 0 → grownFrom r q (pointsOf (drop i l)) ≡ grownFrom r (grown q (p .value)) (pointsOf (drop (i + 2) l))
+  unfolding grownFrom firstBad firstRefusal grownAll readPoint
+  grow-turn k = ap (λ (ps : List LatLng). grownFrom r q ps) (two l i h) ∙ ap by-point (sym e) ∙ rw (eq-eqb (p .refusal) 0 k) refl
+
+  pub bad-here : (p .refusal ≡ 0 → ⊥) → grownFrom r q (pointsOf (drop i l)) ≡ under (p .refusal) r
+  unfolding grownFrom firstBad firstRefusal grownAll readPoint
+  bad-here k = ap (λ (ps : List LatLng). grownFrom r q ps) (two l i h) ∙ ap by-point (sym e) ∙ simp (ne-eqb (p .refusal) 0 k)
+
+pub grow-end : (r q : Rect) (l : List Float) → grownFrom r q (pointsOf (drop (length l) l)) ≡ rectAnswer q
+unfolding grownFrom firstBad grownAll
+grow-end r q l = rw (none-left l) refl
+
+-- ---- the scan: the start, a turn, the end
+pub scan-start : (b : Rect) (l : List Float) → wholePoints l ≡ true → scanned b l ≡ scannedFrom 0 b (pointsOf l)
+unfolding scanned
+scan-start b l w = simp w
+
+pub scan-turn : (n : ℕ) (b : Rect) (l : List Float) (i : ℕ) → i + 1 < length l → (m : ℕ) (a : Answer) → a ≡ enlarged b (pointAt l i) → m ≡ firstRefusal (a .refusal) n
+    → scannedFrom n b (pointsOf (drop i l)) ≡ scannedFrom m (a .value) (pointsOf (drop (i + 2) l))
+unfolding scannedFrom
+scan-turn n b l i h m a e k =
+    ap (λ (ps : List LatLng). scannedFrom n b ps) (two l i h)
+    ∙ ap (λ (y : Answer). scannedFrom (firstRefusal (y .refusal) n) (y .value) (pointsOf (drop (i + 2) l))) (sym e)
+    ∙ ap (λ (j : ℕ). scannedFrom j (a .value) (pointsOf (drop (i + 2) l))) (sym k)
+
+pub scan-end : (n : ℕ) (b : Rect) (l : List Float) → scannedFrom n b (pointsOf (drop (length l) l)) ≡ under n b
+unfolding scannedFrom
+scan-end n b l = rw (none-left l) refl

@@ -1,0 +1,34 @@
+-- What the scan worker answers and what it leaves in the lent box: growth's number and, where that is 0, growth's rectangle; a refusal leaves the box as
+-- it is, every bit of it. Definitions only.
+use mathlib.Core.Bool.{cond}
+use mathlib.Core.List.{List, [], _∷_}
+use Prim.Native.Nat.{ℕ}
+use lib.Ieee.{Float}
+use Rattle.consts.specs.Refusal.{number, accepted, badList, firstRefusal, given}
+use Rattle.s2.specs.declared.latlng.LatLng.{LatLng}
+use Rattle.s2.specs.declared.rect.Rect.{Rect}
+use Rattle.s2.specs.declared.rect.Answer.{Answer}
+use Rattle.s2.specs.Answers.{add}
+use Rattle.growth.specs.Growth.{pointsOf, wholePoints, under, grownBy}
+
+-- the box b after growth answered a
+abbrev pub kept : Rect → Answer → Rect
+kept b a = given (a .refusal) (a .value) b
+
+-- the worker's number and the box after a point
+unfoldable pub enlarged : Rect → LatLng → Answer
+enlarged b p = under (add b p .refusal) (kept b (add b p))
+
+-- and after a list
+unfoldable pub enlargedAll : Rect → List Float → Answer
+enlargedAll b l = under (grownBy b l .refusal) (kept b (grownBy b l))
+
+-- ---- the points one by one through the worker
+-- n is the last refusal that is not 0, so far
+unfoldable pub scannedFrom : ℕ → Rect → List LatLng → Answer
+scannedFrom n b [] = under n b
+scannedFrom n b (p ∷ l) = scannedFrom (firstRefusal (enlarged b p .refusal) n) (enlarged b p .value) l
+
+-- a list that growth would refuse with 5 is refused with 5, and the box is the start
+unfoldable pub scanned : Rect → List Float → Answer
+scanned b l = cond (wholePoints l) (scannedFrom (number accepted) b (pointsOf l)) (under (number badList) b)

@@ -1,0 +1,72 @@
+// Growth by a lent list of points, latitude then longitude each, by value. The rectangle and each point are
+// read as every operation reads one (the crate s2), the rectangle once. A refused list changes nothing.
+use consts::ACCEPTED;
+use consts::BAD_LIST;
+use s2::latlng::LatLng;
+use s2::reading::Pair;
+use s2::reading::read_one;
+use s2::reading::read_point;
+use s2::rect::Answer;
+use s2::rect::Rect;
+use s2::sphere;
+ghost use mathlib.Core.Path.{_≡_};
+ghost use Prim.Native.Nat.{_+_, _<_, _%_};
+ghost use lib.ListN.{length};
+ghost use Rattle.s2.specs.Reading.{readPoint};
+ghost use Rattle.growth.specs.Growth.{pointsOf, pointAt, under, grownFrom, grownBy};
+
+// A number and the rectangle beside it.
+fn answer(refusal: u8, value: Rect) -> Answer
+    ensures { λ a. ⌜ a ≡ under refusal value ⌝ }
+{
+    Answer { refusal, value }
+}
+
+// The point that starts at the number i, as it is read.
+fn read_at(points: &[f64], i: usize) -> Pair
+    requires { ⌜ i + 1 < length (now points) ⌝ }
+    ensures { λ p. ⌜ p ≡ readPoint (pointAt (now (points .entry)) i) ⌝ }
+{
+    read_point(LatLng {
+        lat: points[i],
+        lng: points[i + 1],
+    })
+}
+
+// A start that has been read, grown by whole points, from the first to the last. The first bad one refuses
+// them all, and hands back r.
+fn grow_points(r: Rect, start: Rect, points: &[f64]) -> Answer
+    requires { ⌜ length (now points) % 2 ≡ 0 ⌝ }
+    ensures { λ a. ⌜ a ≡ grownFrom r start (pointsOf (now (points .entry))) ⌝ }
+{
+    let n = points.len();
+    let mut q = start;
+    let mut i = 0;
+    while i < n {
+        let p = read_at(points, i);
+        if p.refusal != ACCEPTED {
+            return answer(p.refusal, r);
+        }
+        q = sphere::add(q, p.value);
+        i += 2;
+    }
+    answer(ACCEPTED, q)
+}
+
+// The rectangle grown by all the points of the list.
+pub fn grow(r: Rect, points: &[f64]) -> Answer
+    ensures { λ a. ⌜ a ≡ grownBy r (now (points .entry)) ⌝ }
+{
+    let n = points.len();
+    if n % 2 != 0 {
+        return answer(BAD_LIST, r);
+    }
+    if n > 8192 {
+        return answer(BAD_LIST, r);
+    }
+    let start = read_one(r);
+    if start.refusal != ACCEPTED {
+        return answer(start.refusal, Rect::EMPTY);
+    }
+    grow_points(r, start.value, points)
+}

@@ -1,0 +1,188 @@
+-- What a stream means: the stream that is written for up to 512 valid rectangles is read as their numbers, so its text is that of their common region;
+-- the first record that is refused decides; and after 512 records a whole one is one too many. A word's bytes join to the word; the rest is by the
+-- definition's own cases. Assumes nothing.
+use mathlib.Core.Path.{_≡_, refl, sym, ap, _∙_}
+use mathlib.Core.Bool.{Bool, true, false, _&&_, cond}
+use mathlib.Core.List.{List, [], _∷_, _++_, append-assoc, append-nil}
+use Prim.Native.Nat.{ℕ, zero, suc, _+_, _-_, _/_, _%_, _^_, _≤_, _<_}
+use native.Mathlib.Nat.{zero-add, add-zero, suc-add}
+use native.Mathlib.Omega.{arith}
+use borrow.Author.Tests.{le-leb, lt-leb, ne-eqb, eqb-true}
+use lib.ListN.{length, drop, getD, length-append}
+use lib.Dec.{leb, eqb}
+use lib.Ieee.{Float, binary64, fits}
+use Rattle.order.proofs.Ranks.{and-of}
+use Rattle.bits.specs.Pattern.{ofPattern, toPattern}
+use Rattle.bits.proofs.RoundTrip.{read-written, pattern-lt}
+use Rattle.consts.specs.Refusal.{number, badList, badRecord, given}
+use Rattle.s2.specs.declared.rect.Rect.{Rect}
+use Rattle.s2.specs.Places.{Valid}
+use Rattle.s2.specs.Reading.{readOne}
+use Rattle.s2.proofs.Readings.{one-in}
+use Rattle.region.specs.CommonRegion.{All, CommonRegion}
+use Rattle.region.specs.Region.{region}
+use Rattle.region.specs.Answers.{rectsOf, numbers, asReadAll, piecesOf}
+use Rattle.region.proofs.Listed.{listed-is}
+use Rattle.text.specs.Text.{piecesText, refusedText}
+use Rattle.stream.specs.declared.record.Record.{Record}
+use Rattle.stream.specs.declared.record.Record.the-variants.{Rectangle, Refused}
+use Rattle.stream.specs.Records.{isMark, joined, wordAt, doubleAt, whole, rectOf, judged, recordOf, recordNumber, recordValues}
+use Rattle.stream.specs.Bytes.{littleEndian, doubleBytes, recordBytes, streamBytes}
+use Rattle.stream.specs.Stream.{Numbers, Fault, after, next, overNumber, readFrom, streamOf, numbersOf}
+use Rattle.stream.specs.Answers.{regionText, textOf, answerText}
+use Rattle.stream.proofs.Streams.{after-none, after-after, one-more, over-whole, over-other}
+
+-- ---- one record: its number and its values
+pub short-refused : (t : List ℕ) → length t < 34 → recordOf t ≡ Refused (number badRecord)
+unfolding recordOf whole
+short-refused t h = simp (lt-leb 34 (length t) h)
+
+pub mark-refused : (t : List ℕ) → isMark (getD t 0 0) (getD t 1 0) ≡ false → recordOf t ≡ Refused (number badRecord)
+unfolding recordOf whole
+mark-refused t h = go (leb 34 (length t))
+  where
+    go : (b : Bool) → cond (b && isMark (getD t 0 0) (getD t 1 0)) (judged (rectOf t)) (Refused 7) ≡ Refused 7
+    go true = rw h refl
+    go false = refl
+
+-- a whole one has the number of its rectangle as every operation reads it, and under 0 its values
+pub whole-number : (t : List ℕ) → whole t ≡ true → recordNumber (recordOf t) ≡ readOne (rectOf t) .refusal
+unfolding recordOf judged recordNumber
+whole-number t h = rw h (go (readOne (rectOf t) .refusal) (eqb (readOne (rectOf t) .refusal) 0) (eqb-true (readOne (rectOf t) .refusal) 0))
+  where
+    go : (n : ℕ) (b : Bool) → (b ≡ true → n ≡ 0) → recordNumber (cond b (Rectangle (rectOf t)) (Refused n)) ≡ n
+    go n true f = sym (f refl)
+    go n false f = refl
+
+pub whole-values : (t : List ℕ) → whole t ≡ true → readOne (rectOf t) .refusal ≡ 0 → recordValues (recordOf t) ≡ rectOf t ∷ []
+unfolding recordOf judged recordValues
+whole-values t h e = simp (h, e)
+
+-- ---- a word's bytes
+joined-bytes : (w : ℕ) → w < 2 ^ 64 →
+    joined (w % 256) (w / 256 % 256) (w / 256 / 256 % 256) (w / 256 / 256 / 256 % 256) (w / 256 / 256 / 256 / 256 % 256) (w / 256 / 256 / 256 / 256 / 256 % 256)
+    (w / 256 / 256 / 256 / 256 / 256 / 256 % 256) (w / 256 / 256 / 256 / 256 / 256 / 256 / 256 % 256)
+    ≡ w
+joined-bytes w h = omega arith
+
+double-read : (x : Float) → fits binary64 x ≡ true → (w : ℕ) → w ≡ toPattern x → ofPattern w ≡ x
+double-read x h w e = ap ofPattern e ∙ read-written x h
+
+-- ---- a record that is written and read again
+record-size : (r : Rect) → length (recordBytes r) ≡ 34
+unfolding recordBytes doubleBytes littleEndian
+record-size r = refl
+
+module _ (r : Rect) (v : Valid r) (t : List ℕ) where
+  rect-read : rectOf (recordBytes r ++ t) ≡ r
+  unfolding rectOf doubleAt wordAt recordBytes doubleBytes littleEndian
+  rect-read =
+      rw (
+        double-read (r .lat .lo) (v .lat-reach .lo-place .is-double) _ (joined-bytes (toPattern (r .lat .lo)) (pattern-lt (r .lat .lo) (v .lat-reach .lo-place .is-double))),
+        double-read (r .lat .hi) (v .lat-reach .hi-place .is-double) _ (joined-bytes (toPattern (r .lat .hi)) (pattern-lt (r .lat .hi) (v .lat-reach .hi-place .is-double))),
+        double-read (r .lng .lo) (v .lng-valid .lo-double) _ (joined-bytes (toPattern (r .lng .lo)) (pattern-lt (r .lng .lo) (v .lng-valid .lo-double))),
+        double-read (r .lng .hi) (v .lng-valid .hi-double) _ (joined-bytes (toPattern (r .lng .hi)) (pattern-lt (r .lng .hi) (v .lng-valid .hi-double))),
+      )
+      refl
+
+  long-read : 34 ≤ length (recordBytes r ++ t)
+  long-read = omega (arith, length-append (recordBytes r) t, record-size r)
+
+  whole-read : whole (recordBytes r ++ t) ≡ true
+  unfolding whole isMark recordBytes
+  whole-read = and-of (le-leb 34 (length (recordBytes r ++ t)) long-read) refl
+
+  rest-read : drop 34 (recordBytes r ++ t) ≡ t
+  unfolding recordBytes doubleBytes littleEndian
+  rest-read = refl
+
+  some-bytes : 0 < length (recordBytes r ++ t)
+  some-bytes = omega (arith, long-read)
+
+  record-read : recordOf (recordBytes r ++ t) ≡ Rectangle r
+  unfolding recordOf judged
+  record-read = rw (whole-read, rect-read, one-in r v) refl
+
+-- ---- a list of rectangles that is written and read again
+read-list : (rs : List Rect) → All Valid rs → (n : ℕ) (t : List ℕ) → readFrom (length rs + n) (streamBytes rs ++ t) ≡ after (numbers rs) (readFrom n t)
+unfolding streamBytes numbers
+read-list [] v n t = ap (λ (m : ℕ). readFrom m t) (zero-add n) ∙ sym (after-none (readFrom n t))
+read-list (r ∷ l) v n t =
+    ap (readFrom (suc (length l) + n)) (append-assoc (recordBytes r) (streamBytes l) t)
+    ∙ ap (λ (m : ℕ). readFrom m (recordBytes r ++ (streamBytes l ++ t))) (suc-add (length l) n)
+    ∙ one-more (length l + n) (recordBytes r ++ (streamBytes l ++ t)) (some-bytes r (v .0) (streamBytes l ++ t))
+    ∙ rw (record-read r (v .0) (streamBytes l ++ t), rest-read r (v .0) (streamBytes l ++ t)) refl
+    ∙ ap (after (numbersOf r)) (read-list l (v .1) n t)
+    ∙ after-after (numbersOf r) (numbers l) (readFrom n t)
+
+none-more : (n : ℕ) → readFrom n [] ≡ Numbers []
+unfolding readFrom overNumber
+none-more zero = refl
+none-more (suc n) = refl
+
+-- the stream of up to 512 valid rectangles means their numbers
+pub stream-of : (rs : List Rect) → All Valid rs → length rs ≤ 512 → streamOf (streamBytes rs) ≡ Numbers (numbers rs)
+unfolding streamOf
+stream-of rs v h =
+    ap (λ (s : List ℕ). readFrom 512 s) (sym (append-nil (streamBytes rs)))
+    ∙ ap (λ (m : ℕ). readFrom m (streamBytes rs ++ [])) (all-of rs h)
+    ∙ read-list rs v (512 - length rs) []
+    ∙ ap (after (numbers rs)) (none-more (512 - length rs))
+    ∙ ap Numbers (append-nil (numbers rs))
+  where
+    all-of : (rs : List Rect) → length rs ≤ 512 → 512 ≡ length rs + (512 - length rs)
+    all-of rs h = omega arith
+
+-- so its text is that of the pieces of their common region
+rects-numbers : (rs : List Rect) → rectsOf (numbers rs) ≡ rs
+unfolding rectsOf numbers
+rects-numbers [] = refl
+rects-numbers (r ∷ l) = ap (λ (k : List Rect). r ∷ k) (rects-numbers l)
+
+pub record Answers (rs : List Rect) (t : List ℕ) : Type 0 where
+  pub listed : List Rect
+  pub is-common : CommonRegion rs listed
+  pub is-text : t ≡ piecesText (numbers listed)
+
+pub common-answer : (rs : List Rect) → All Valid rs → length rs ≤ 512 → Answers rs (answerText (streamBytes rs))
+unfolding answerText textOf regionText piecesOf
+common-answer rs v h =
+    record {
+      listed = region (asReadAll rs);
+      is-common = listed-is rs v;
+      is-text = ap textOf (stream-of rs v h) ∙ ap (λ (k : List Rect). piecesText (numbers (region (asReadAll k)))) (rects-numbers rs);
+    }
+
+-- after fewer than 512 valid rectangles the first record that is refused decides, whatever follows it
+pub first-fault : (rs : List Rect) → All Valid rs → length rs < 512 → (t : List ℕ) (n : ℕ) → 0 < length t → recordOf t ≡ Refused n →
+    answerText (streamBytes rs ++ t) ≡ refusedText n
+unfolding answerText textOf streamOf
+first-fault rs v h t n k e =
+    ap textOf
+    (ap (λ (m : ℕ). readFrom m (streamBytes rs ++ t)) (one-left rs h)
+    ∙ read-list rs v (suc (511 - length rs)) t
+    ∙ ap (after (numbers rs)) (one-more (511 - length rs) t k ∙ ap (λ (x : Record). next x (readFrom (511 - length rs) (drop 34 t))) e))
+  where
+    one-left : (rs : List Rect) → length rs < 512 → 512 ≡ length rs + suc (511 - length rs)
+    one-left rs h = omega arith
+
+-- after 512 a whole record is one too many, whatever its numbers; anything else is no record
+over-fault : (t : List ℕ) (n : ℕ) → suc n ≡ overNumber t → readFrom 0 t ≡ Fault (suc n)
+unfolding readFrom
+over-fault t n e = ap (λ (m : ℕ). given m (Numbers []) (Fault m)) (sym e) ∙ simp (ne-eqb (suc n) 0 (λ z. omega arith))
+
+past : (rs : List Rect) → All Valid rs → length rs ≡ 512 → (t : List ℕ) (n : ℕ) → suc n ≡ overNumber t → answerText (streamBytes rs ++ t) ≡ refusedText (suc n)
+unfolding answerText textOf streamOf
+past rs v h t n e =
+    ap textOf
+    (ap (λ (m : ℕ). readFrom m (streamBytes rs ++ t)) (sym (add-zero 512) ∙ ap (λ (m : ℕ). m + 0) (sym h))
+    ∙ read-list rs v 0 t
+    ∙ ap (after (numbers rs)) (over-fault t n e))
+
+pub one-too-many : (rs : List Rect) → All Valid rs → length rs ≡ 512 → (t : List ℕ) → 0 < length t → whole t ≡ true →
+    answerText (streamBytes rs ++ t) ≡ refusedText (number badList)
+one-too-many rs v h t k w = past rs v h t 4 (over-whole t (λ z. omega arith) w)
+
+pub no-record : (rs : List Rect) → All Valid rs → length rs ≡ 512 → (t : List ℕ) → 0 < length t → whole t ≡ false →
+    answerText (streamBytes rs ++ t) ≡ refusedText (number badRecord)
+no-record rs v h t k w = past rs v h t 6 (over-other t (λ z. omega arith) w)

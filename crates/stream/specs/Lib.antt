@@ -1,0 +1,4 @@
+pub mod Records
+pub mod Stream
+pub mod Answers
+pub mod Bytes

@@ -1,0 +1,39 @@
+// What the program `common` writes for a stream: the pieces of the common region of its rectangles, or
+// the refusal of its first fault.
+use crate::gather::gather;
+use region::common_region;
+use text::Written;
+use text::write_pieces;
+use text::write_refusal;
+ghost use mathlib.Core.Path.{_≡_};
+ghost use lib.ListN.{length};
+ghost use Rattle.text.specs.Answers.{wrote, left};
+ghost use Rattle.stream.specs.Answers.{Taken, regionText, answerText};
+
+// The text of the common region of a list that has no fault. The list has at most 512 rectangles, and
+// their common region no more pieces than that, so there is room for it.
+fn listed(list: &[f64], out: &mut [u8]) -> Written
+    requires { ⌜ Taken (now list) ⌝ }
+    ensures { λ r. ⌜ r ≡ wrote (regionText (now (list .entry))) (length (now (out .entry))) ⌝ }
+    ensures { λ _. ⌜ now (out .exit) ≡ left (regionText (now (list .entry))) (now (out .entry)) ⌝ }
+{
+    let mut pieces = [0.0; 2048];
+    let p = common_region(list, &mut pieces);
+    let n = 4 * p.count;
+    write_pieces(&pieces[..n], out)
+}
+
+// The text that goes out for the stream s, to the start of `out`.
+pub fn common_text(s: &[u8], out: &mut [u8]) -> Written
+    ensures { λ r. ⌜ r ≡ wrote (answerText (now (s .entry))) (length (now (out .entry))) ⌝ }
+    ensures { λ _. ⌜ now (out .exit) ≡ left (answerText (now (s .entry))) (now (out .entry)) ⌝ }
+{
+    let mut list = [0.0; 2048];
+    let g = gather(s, &mut list);
+    let n = 4 * g.count;
+    let refusal = g.refusal;
+    match refusal {
+        0 => listed(&list[..n], out),
+        1..=255 => write_refusal(refusal, out),
+    }
+}

@@ -1,0 +1,129 @@
+// One record of the stream: the mark 52 31, then lat.lo, lat.hi, lng.lo, lng.hi as little-endian doubles.
+use consts::ACCEPTED;
+use consts::BAD_RECORD;
+use r1::interval::Interval as Line;
+use s1::interval::Interval as Circle;
+use s2::reading::read_one;
+use s2::rect::Rect;
+ghost use mathlib.Core.Path.{_≡_};
+ghost use Prim.Native.Nat.{_+_, _≤_};
+ghost use lib.ListN.{length};
+ghost use Rattle.stream.specs.Records.{isMark, isSecond, joined, doubleAt, rectOf, judged, whole, recordOf, recordNumber};
+
+// How many bytes a record has.
+const SIZE: usize = 34;
+
+// A record as it is read: a rectangle that can be taken, its numbers as they came, or why there is none.
+pub enum Record {
+    Rectangle(Rect),
+    Refused(u8),
+}
+
+// Document 01's number for a record.
+pub fn number_of(x: Record) -> u8
+    ensures { λ n. ⌜ n ≡ recordNumber x ⌝ }
+{
+    match x {
+        Record::Rectangle(r) => ACCEPTED,
+        Record::Refused(n) => n,
+    }
+}
+
+// Whether two bytes are the mark.
+fn is_mark(a: u8, b: u8) -> bool
+    ensures { λ r. ⌜ r ≡ isMark a b ⌝ }
+{
+    match a {
+        0x00..=0x51 => false,
+        0x52 => is_second(b),
+        0x53..=0xFF => false,
+    }
+}
+
+// Whether a byte is the mark's second one.
+fn is_second(b: u8) -> bool
+    ensures { λ r. ⌜ r ≡ isSecond b ⌝ }
+{
+    match b {
+        0x00..=0x30 => false,
+        0x31 => true,
+        0x32..=0xFF => false,
+    }
+}
+
+fn wide(b: u8) -> u64
+    ensures { λ r. ⌜ r ≡ b ⌝ }
+{
+    b as u64
+}
+
+// Eight bytes as one word, the lowest first.
+fn join(a: u8, b: u8, c: u8, d: u8, e: u8, f: u8, g: u8, h: u8) -> u64
+    ensures { λ r. ⌜ r ≡ joined a b c d e f g h ⌝ }
+{
+    let high = wide(e) + 256 * (wide(f) + 256 * (wide(g) + 256 * wide(h)));
+    wide(a) + 256 * (wide(b) + 256 * (wide(c) + 256 * (wide(d) + 256 * high)))
+}
+
+// The double at a place. A NaN's pattern is the NaN's, and never a double's.
+fn double_at(s: &[u8], at: usize) -> f64
+    requires { ⌜ at + 8 ≤ length (now s) ⌝ }
+    ensures { λ x. ⌜ x ≡ doubleAt (now (s .entry)) at ⌝ }
+{
+    bits::from_pattern(join(
+        s[at],
+        s[at + 1],
+        s[at + 2],
+        s[at + 3],
+        s[at + 4],
+        s[at + 5],
+        s[at + 6],
+        s[at + 7],
+    ))
+}
+
+// The rectangle of a whole record.
+fn rect_of(s: &[u8]) -> Rect
+    requires { ⌜ 34 ≤ length (now s) ⌝ }
+    ensures { λ r. ⌜ r ≡ rectOf (now (s .entry)) ⌝ }
+{
+    let a = double_at(s, 2);
+    let b = double_at(s, 10);
+    let c = double_at(s, 18);
+    let d = double_at(s, 26);
+    let lat = Line { lo: a, hi: b };
+    let lng = Circle { lo: c, hi: d };
+    Rect { lat, lng }
+}
+
+// A rectangle as every operation on one reads it: 1 where a number is out of reach, 2 where it is not
+// valid.
+fn judge(r: Rect) -> Record
+    ensures { λ x. ⌜ x ≡ judged r ⌝ }
+{
+    let x = read_one(r);
+    if x.refusal == ACCEPTED {
+        return Record::Rectangle(r);
+    }
+    Record::Refused(x.refusal)
+}
+
+// Whether a whole record with a right mark stands at the start of s.
+pub(crate) fn is_record(s: &[u8]) -> bool
+    ensures { λ b. ⌜ b ≡ whole (now (s .entry)) ⌝ }
+{
+    if s.len() < SIZE {
+        return false;
+    }
+    is_mark(s[0], s[1])
+}
+
+// The record that stands at the start of s.
+pub fn read_record(s: &[u8]) -> Record
+    ensures { λ r. ⌜ r ≡ recordOf (now (s .entry)) ⌝ }
+{
+    if is_record(s) {
+        return judge(rect_of(s));
+    }
+    Record::Refused(BAD_RECORD)
+}

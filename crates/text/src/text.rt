@@ -1,0 +1,196 @@
+// Writes what document 01 gives the program `common` to write: `pieces N` and a line a piece, four bit
+// patterns in 16 upper-case hexadecimal digits with single spaces; or only `refused N`. Every line
+// ends with a newline. Each private writer puts one text at a place, and its contract says which.
+use bits::pattern;
+use consts::ACCEPTED;
+use consts::BAD_LIST;
+use consts::NO_ROOM;
+ghost use mathlib.Core.Path.{_≡_};
+ghost use Prim.Native.Nat.{_+_, _*_, _<_, _≤_, _/_, _%_, _^_};
+ghost use lib.ListN.{length, getD};
+ghost use lib.Ieee.{nan};
+ghost use Rattle.text.specs.Text.{hexDigit, numberText, wordText, lineText, linesText, decimalText, headText, piecesText};
+ghost use Rattle.text.specs.Put.{put};
+ghost use Rattle.text.specs.Answers.{wrote, left, wrotePieces, leftPieces, wroteRefusal, leftRefusal};
+
+// What was written: how many bytes stand at the start of the output; none under a refusal.
+pub struct Written {
+    pub refusal: u8,
+    pub count: usize,
+}
+
+// Puts a text.
+fn put_text(s: &[u8], at: usize, out: &mut [u8])
+    requires { ⌜ at + length (now s) ≤ length (now out) ⌝ }
+    ensures { λ _. ⌜ now (out .exit) ≡ put at (now (s .entry)) (now (out .entry)) ⌝ }
+{
+    let mut i = 0;
+    while i < s.len() {
+        out[at + i] = s[i];
+        i += 1;
+    }
+}
+
+// A hexadecimal digit, in upper case. One under 10 is a decimal digit too.
+fn digit(d: u64) -> u8
+    requires { ⌜ d < 16 ⌝ }
+    ensures { λ r. ⌜ r ≡ hexDigit d ⌝ }
+{
+    if d < 10 {
+        return b'0' + d as u8;
+    }
+    b'A' + (d - 10) as u8
+}
+
+// The digit of a word that k digits follow.
+fn digit_at(w: u64, k: usize) -> u8
+    requires { ⌜ k < 16 ⌝ }
+    ensures { λ r. ⌜ r ≡ hexDigit (w / 2 ^ (4 * k) % 16) ⌝ }
+{
+    digit((w >> (4 * k as u64)) % 16)
+}
+
+// Puts a number's bit pattern; k is how many of its digits are still to come.
+fn put_number(x: f64, at: usize, out: &mut [u8])
+    requires { ⌜ at + 16 ≤ length (now out) ⌝ }
+    ensures { λ _. ⌜ now (out .exit) ≡ put at (numberText x) (now (out .entry)) ⌝ }
+{
+    let w = pattern(x);
+    let mut k = 16;
+    while k > 0 {
+        k -= 1;
+        out[at + (15 - k)] = digit_at(w, k);
+    }
+}
+
+// Puts a number and the mark after it.
+fn put_word(x: f64, mark: u8, at: usize, out: &mut [u8])
+    requires { ⌜ at + 17 ≤ length (now out) ⌝ }
+    ensures { λ _. ⌜ now (out .exit) ≡ put at (wordText x mark) (now (out .entry)) ⌝ }
+{
+    put_number(x, at, out);
+    out[at + 16] = mark;
+}
+
+// Puts the line of the piece whose numbers start at i.
+fn put_line(list: &[f64], i: usize, at: usize, out: &mut [u8])
+    requires { ⌜ (i + 4 ≤ length (now list)) × (at + 68 ≤ length (now out)) ⌝ }
+    ensures { λ _. ⌜ now (out .exit) ≡ put at (lineText (getD (now (list .entry)) i nan) (getD (now (list .entry)) (i + 1) nan) (getD (now (list .entry)) (i + 2) nan) (getD (now (list .entry)) (i + 3) nan)) (now (out .entry)) ⌝ }
+{
+    put_word(list[i], b' ', at, out);
+    put_word(list[i + 1], b' ', at + 17, out);
+    put_word(list[i + 2], b' ', at + 34, out);
+    put_word(list[i + 3], b'\n', at + 51, out);
+}
+
+// Puts a line a piece. A number of the list takes 17 bytes, so the line of number i starts 17 * i after
+// the first.
+fn put_lines(list: &[f64], at: usize, out: &mut [u8])
+    requires { ⌜ (length (now list) % 4 ≡ 0) × (at + 17 * length (now list) ≤ length (now out)) ⌝ }
+    ensures { λ _. ⌜ now (out .exit) ≡ put at (linesText (now (list .entry))) (now (out .entry)) ⌝ }
+{
+    let mut i = 0;
+    while i < list.len() {
+        put_line(list, i, at + 17 * i, out);
+        i += 4;
+    }
+}
+
+// How many digits a number under 1,000 has in decimal.
+fn width(n: u64) -> usize
+    requires { ⌜ n < 1000 ⌝ }
+    ensures { λ r. ⌜ r ≡ length (decimalText n) ⌝ }
+    ensures { λ r. ⌜ r ≤ 3 ⌝ }
+{
+    match n {
+        0..=9 => 1,
+        10..=99 => 2,
+        _ => 3,
+    }
+}
+
+// Puts a number under 1,000 in decimal.
+fn put_decimal(n: u64, at: usize, out: &mut [u8])
+    requires { ⌜ (n < 1000) × (at + length (decimalText n) ≤ length (now out)) ⌝ }
+    ensures { λ _. ⌜ now (out .exit) ≡ put at (decimalText n) (now (out .entry)) ⌝ }
+{
+    match n {
+        0..=9 => put_text(&[digit(n)], at, out),
+        10..=99 => put_text(&[digit(n / 10), digit(n % 10)], at, out),
+        _ => put_text(
+            &[digit(n / 100), digit(n / 10 % 10), digit(n % 10)],
+            at,
+            out,
+        ),
+    }
+}
+
+// Puts the first line: a name, a number under 1,000 and the newline.
+fn put_head(name: &[u8], n: u64, out: &mut [u8])
+    requires { ⌜ (n < 1000) × (length (now name) + length (decimalText n) < length (now out)) ⌝ }
+    ensures { λ _. ⌜ now (out .exit) ≡ put 0 (headText (now (name .entry)) n) (now (out .entry)) ⌝ }
+{
+    let at = name.len();
+    put_text(name, 0, out);
+    put_decimal(n, at, out);
+    out[at + width(n)] = b'\n';
+}
+
+// Writes a list of whole pieces; that there is room is known before the first byte is put.
+fn write_whole(list: &[f64], out: &mut [u8]) -> Written
+    requires { ⌜ (length (now list) % 4 ≡ 0) × (length (now list) ≤ 2048) ⌝ }
+    ensures { λ r. ⌜ r ≡ wrote (piecesText (now (list .entry))) (length (now (out .entry))) ⌝ }
+    ensures { λ _. ⌜ now (out .exit) ≡ left (piecesText (now (list .entry))) (now (out .entry)) ⌝ }
+{
+    let n = list.len();
+    let pieces = (n / 4) as u64;
+    let head = 8 + width(pieces);
+    let count = head + 17 * n;
+    if out.len() < count {
+        return Written {
+            refusal: NO_ROOM,
+            count: 0,
+        };
+    }
+    put_head(b"pieces ", pieces, out);
+    put_lines(list, head, out);
+    Written {
+        refusal: ACCEPTED,
+        count,
+    }
+}
+
+// The pieces in `list`, four numbers each, to the start of `out`. A refusal writes nothing.
+pub fn write_pieces(list: &[f64], out: &mut [u8]) -> Written
+    ensures { λ r. ⌜ r ≡ wrotePieces (now (list .entry)) (length (now (out .entry))) ⌝ }
+    ensures { λ _. ⌜ now (out .exit) ≡ leftPieces (now (list .entry)) (now (out .entry)) ⌝ }
+{
+    let n = list.len();
+    let whole = (n % 4 == 0) & (n <= 2048);
+    if whole {
+        return write_whole(list, out);
+    }
+    Written {
+        refusal: BAD_LIST,
+        count: 0,
+    }
+}
+
+// The refusal number n to the start of `out`. Where there is no room, nothing is written.
+pub fn write_refusal(n: u8, out: &mut [u8]) -> Written
+    ensures { λ r. ⌜ r ≡ wroteRefusal n (length (now (out .entry))) ⌝ }
+    ensures { λ _. ⌜ now (out .exit) ≡ leftRefusal n (now (out .entry)) ⌝ }
+{
+    let count = 9 + width(n as u64);
+    if out.len() < count {
+        return Written {
+            refusal: NO_ROOM,
+            count: 0,
+        };
+    }
+    put_head(b"refused ", n as u64, out);
+    Written {
+        refusal: ACCEPTED,
+        count,
+    }
+}

@@ -1,0 +1,175 @@
+//! The arms of growth by a list: those of the crate's growth by one point, reached at any accepted point
+//! of the list, and what a list can have that one point cannot.
+
+use super::{by_one, fault, has_bad_length, left, one_point, points, rect, Asked, Rect, Way, EMPTY};
+use crate::ops::{Arm, Role};
+use crate::plan;
+use crate::refusals::{ACCEPTED, BAD_LENGTH, BAD_POINT};
+
+/// What happened to a list: the answer, and each point with the box before it and its refusal number.
+struct Seen<'a> {
+    asked: &'a Asked,
+    refusal: u8,
+    left: Rect,
+    steps: Vec<Step>,
+}
+
+struct Step {
+    before: Rect,
+    point: [f64; 2],
+    refusal: u8,
+}
+
+/// A name, and whether the arm is reached.
+type Own = (&'static str, fn(&Seen) -> bool);
+
+/// Wanted of both questions.
+const OF_BOTH: &[Own] = &[
+    ("an empty list", |seen| seen.refusal == ACCEPTED && seen.asked.numbers.is_empty()),
+    ("an empty list, start with -0", |seen| {
+        seen.refusal == ACCEPTED && seen.asked.numbers.is_empty() && has_negative_zero(&seen.asked.start)
+    }),
+    ("an empty list, start not valid", |seen| seen.asked.numbers.is_empty() && !seen.valid_start()),
+    ("one point", |seen| seen.refusal == ACCEPTED && seen.steps.len() == 1),
+    ("the start is empty, but not the standard one", |seen| {
+        let [lo, hi, ..] = seen.asked.start;
+        seen.refusal == ACCEPTED && lo > hi && [lo, hi] != EMPTY[..2] && !seen.steps.is_empty()
+    }),
+    ("two points or more enlarge the box", |seen| seen.refusal == ACCEPTED && seen.enlarged() > 1),
+    ("a point carries the box over the seam", |seen| {
+        let inverted = |rect: &Rect| rect[2] > rect[3] && rect[0] <= rect[1];
+        let plain = |rect: &Rect| rect[2] <= rect[3];
+        seen.refusal == ACCEPTED && seen.boxes().windows(2).any(|two| plain(&two[0]) && inverted(&two[1]))
+    }),
+    ("the order of the points matters", |seen| {
+        seen.refusal == ACCEPTED && backwards(seen.asked) != seen.left
+    }),
+    ("length refused, start not valid", |seen| seen.refusal == BAD_LENGTH && !seen.valid_start()),
+    ("length refused, start with -0", |seen| {
+        seen.refusal == BAD_LENGTH && has_negative_zero(&seen.asked.start)
+    }),
+    ("point refused, start with -0", |seen| {
+        seen.refusal == BAD_POINT && has_negative_zero(&seen.asked.start)
+    }),
+    ("the first point alone is refused", |seen| seen.refused_alone(0)),
+    ("the last point alone is refused", |seen| seen.refused_alone(seen.steps.len().wrapping_sub(1))),
+    ("a point in the middle is refused", |seen| {
+        seen.refusal == BAD_POINT
+            && seen.steps.len() > 2
+            && seen.steps[1..seen.steps.len() - 1].iter().any(|step| step.refusal == BAD_POINT)
+    }),
+];
+
+/// Wanted of the whole list: the start goes before a bad point, and the length before both.
+const OF_GROWTH: &[Own] = &[
+    ("start refused, a point is bad too", |seen| {
+        !seen.valid_start() && seen.refusal != BAD_LENGTH && seen.any_bad_point()
+    }),
+    ("length refused, a point is bad too", |seen| seen.refusal == BAD_LENGTH && seen.any_bad_point()),
+];
+
+/// Wanted of the running box: what it stores and what it keeps.
+const OF_SCAN: &[Own] = &[
+    ("a point is stored after a refused one", |seen| {
+        let refused = seen.steps.iter().position(|step| step.refusal == BAD_POINT);
+        refused.is_some_and(|at| seen.steps[at..].iter().any(|step| step.refusal == ACCEPTED))
+    }),
+    ("a point is refused after a stored one", |seen| {
+        let stored = seen.steps.iter().position(|step| step.refusal == ACCEPTED);
+        stored.is_some_and(|at| seen.steps[at..].iter().any(|step| step.refusal == BAD_POINT))
+    }),
+    ("nothing is stored, start with -0", |seen| {
+        !seen.any_stored() && !seen.steps.is_empty() && has_negative_zero(&seen.asked.start)
+    }),
+];
+
+fn own(way: Way) -> impl Iterator<Item = &'static Own> {
+    let its = match way {
+        Way::Growth => OF_GROWTH,
+        Way::Scan => OF_SCAN,
+    };
+    OF_BOTH.iter().chain(its)
+}
+
+/// All arms. Those that are asked of every operation are among the ones of growth by one point.
+pub fn all(way: Way) -> Vec<Arm> {
+    let own = own(way).map(|(name, _)| Arm { part: "", name });
+    own.chain(plan::arms(one_point())).collect()
+}
+
+/// The arms that a question reaches.
+pub fn reached(asked: &Asked) -> Vec<Arm> {
+    let seen = seen(asked);
+    let mut hit: Vec<Arm> =
+        own(asked.way).filter(|(_, test)| test(&seen)).map(|(name, _)| Arm { part: "", name }).collect();
+    // A list that is refused whole is not grown by any point.
+    let grows = asked.way == Way::Scan || seen.refusal == ACCEPTED;
+    for step in seen.steps.iter().filter(|step| grows && step.refusal == ACCEPTED) {
+        for arm in plan::arms_reached(one_point(), &[&step.before[..], &step.point].concat()) {
+            if !hit.contains(&arm) {
+                hit.push(arm);
+            }
+        }
+    }
+    hit
+}
+
+fn seen(asked: &Asked) -> Seen<'_> {
+    let (refusal, left) = left(asked);
+    Seen { asked, refusal, left, steps: steps(asked) }
+}
+
+/// Each point with the box before it, as the scan worker meets them. None of a list of a bad length.
+fn steps(asked: &Asked) -> Vec<Step> {
+    let mut steps = Vec::new();
+    let mut before = asked.start;
+    for point in points(asked).filter(|_| !has_bad_length(asked)) {
+        let given = by_one(before, point);
+        steps.push(Step { before, point, refusal: given.refusal });
+        if given.refusal == ACCEPTED {
+            before = rect(given.value);
+        }
+    }
+    steps
+}
+
+/// What the same points in the other order leave.
+fn backwards(asked: &Asked) -> Rect {
+    let numbers = points(asked).rev().collect::<Vec<_>>().concat();
+    left(&Asked { way: asked.way, start: asked.start, numbers }).1
+}
+
+fn has_negative_zero(rect: &Rect) -> bool {
+    rect.iter().any(|x| x.to_bits() == (-0.0f64).to_bits())
+}
+
+impl Seen<'_> {
+    fn valid_start(&self) -> bool {
+        fault(Role::Rect, &self.asked.start) == ACCEPTED
+    }
+
+    fn any_bad_point(&self) -> bool {
+        points(self.asked).any(|point| fault(Role::LatLng, &point) != ACCEPTED)
+    }
+
+    fn any_stored(&self) -> bool {
+        self.steps.iter().any(|step| step.refusal == ACCEPTED)
+    }
+
+    /// The boxes before each point, and the last one.
+    fn boxes(&self) -> Vec<Rect> {
+        self.steps.iter().map(|step| step.before).chain([self.left]).collect()
+    }
+
+    /// How many points change the box.
+    fn enlarged(&self) -> usize {
+        self.boxes().windows(2).filter(|two| two[0] != two[1]).count()
+    }
+
+    /// Whether of several points this one is refused with 3, and no other one.
+    fn refused_alone(&self, at: usize) -> bool {
+        let is_bad = |step: &Step| step.refusal == BAD_POINT;
+        self.steps.len() > 1
+            && self.steps.iter().enumerate().all(|(place, step)| is_bad(step) == (place == at))
+    }
+}
