@@ -338,10 +338,10 @@ unfolding allFull
 start-state = all-full refl
 
 -- ---- what is common depends on the entries alone
-every-same : (l m : List Interval) → ((i : Interval) → Mem i l → Mem i m) → ((i : Interval) → Mem i m → Mem i l) → (p : Float) (g : Bool) → everyHolds l p g ≡ everyHolds m p g
+pub every-same : (l m : List Interval) → ((i : Interval) → Mem i l → Mem i m) → ((i : Interval) → Mem i m → Mem i l) → (p : Float) (g : Bool) → everyHolds l p g ≡ everyHolds m p g
 every-same l m a b p g = both-ways _ _ (λ h. every-of m p g (λ i n. every-at p g h (b i n))) (λ h. every-of l p g (λ i n. every-at p g h (a i n)))
 
-same-common : (l m found : List Interval) → ((p : Float) (g : Bool) → everyHolds l p g ≡ everyHolds m p g) → CommonArcs l found → CommonArcs m found
+pub same-common : (l m found : List Interval) → ((p : Float) (g : Bool) → everyHolds l p g ≡ everyHolds m p g) → CommonArcs l found → CommonArcs m found
 same-common l m found e c =
     record {
       valid = c .valid;

@@ -6,8 +6,13 @@ pub mod Listed
 pub mod Unique
 pub mod Insertion
 pub mod Turns
+pub mod Fronts
+pub mod Lasts
 pub mod Written
 pub mod Accepted
 pub mod Promises
 pub mod Laws
 pub mod Examples
+pub mod Permutations
+pub mod AnyOrder
+pub mod Many

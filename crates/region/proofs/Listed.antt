@@ -127,7 +127,7 @@ unfolding bandFrom
 plain-band b [] p a = p
 plain-band b (r ∷ l) p a = plain-band (line.overlap b (r .lat)) l (overlap-ends Plain Plain b (r .lat) p (lat-plain (a .0))) (a .1)
 
-plain-lngs : (rs : List Rect) → All Read rs → All PlainArc (lngs rs)
+pub plain-lngs : (rs : List Rect) → All Read rs → All PlainArc (lngs rs)
 unfolding lngs
 plain-lngs [] a = tt
 plain-lngs (r ∷ l) a = (lng-plain (a .0), plain-lngs l (a .1))
@@ -137,14 +137,8 @@ module _ (rs : List Rect) (v : All Valid rs) (a : All Read rs) where
   abbrev B : Line
   B = bandFrom LATITUDES rs
 
-  abbrev ps : List Circle
-  ps = common (lngs rs)
-
   range-B : Range B
   range-B = range-band LATITUDES rs latitudes-range v
-
-  lng-is : CommonArcs (lngs rs) ps
-  lng-is = common-is (lngs rs) (valid-lngs rs v)
 
   in-latitudes : {x at : Float} {g : Bool} → Place x at g → line.holds LATITUDES x ≡ true
   unfolding line.holds latitude
@@ -178,9 +172,10 @@ module _ (rs : List Rect) (v : All Valid rs) (a : All Read rs) where
       at : (s : Float) (d : Bool) → LngPlace s d → Place x s d
       at s d n = record { is-double = q .is-double; is-latitude = q .is-latitude; lng-place = n }
 
-  of-some : line.empty B ≡ false → CommonRegion rs (across B ps)
+  -- with any pieces that are the common ones of the longitudes
+  pub of-pieces : (ps : List Circle) → CommonArcs (lngs rs) ps → All PlainArc ps → line.empty B ≡ false → CommonRegion rs (across B ps)
   unfolding empty
-  of-some e =
+  of-pieces ps lng-is p e =
       record {
         valid = all-across B (λ i. LngValid i × (circle.empty i ≡ false)) Valid (λ i w. made range-B (w .0) (e ∙ sym (w .1))) ps
             (both LngValid (λ i. circle.empty i ≡ false) ps (lng-is .valid) (lng-is .non-empty));
@@ -189,17 +184,16 @@ module _ (rs : List Rect) (v : All Valid rs) (a : All Read rs) where
         apart = pairs-across B ArcsApart Apart (λ i o u x at g q h k. u at g (q .lng-place) (and-r (line.holds B x) _ h) (and-r (line.holds B x) _ k)) ps (lng-is .apart);
         unjoined = pairs-across B (ArcsUnjoined (lngs rs)) (Unjoined rs) joined ps (lng-is .unjoined);
         rising = pairs-across B LowerArc Lower (λ i o h. h) ps (lng-is .rising);
-        plain = all-across B PlainArc Read (λ i p. read-box B i (plain-band LATITUDES rs latitudes-plain a) p) ps
-            (common-plain (lngs rs) (valid-lngs rs v) (plain-lngs rs a));
+        plain = all-across B PlainArc Read (λ i q. read-box B i (plain-band LATITUDES rs latitudes-plain a) q) ps p;
       }
 
   pub region-is : CommonRegion rs (region rs)
   unfolding region
   region-is = go (line.empty B) refl
     where
-      go : (t : Bool) → line.empty B ≡ t → CommonRegion rs (cond t [] (across B ps))
+      go : (t : Bool) → line.empty B ≡ t → CommonRegion rs (cond t [] (across B (common (lngs rs))))
       go true e = of-none e
-      go false e = of-some e
+      go false e = of-pieces (common (lngs rs)) (common-is (lngs rs) (valid-lngs rs v)) (common-plain (lngs rs) (valid-lngs rs v) (plain-lngs rs a)) e
 
 -- ---- lists with the same common places have one common region
 pub same-region : (l m listed : List Rect) → ((x at : Float) (g : Bool) → Place x at g → inEvery l x at g ≡ inEvery m x at g) → CommonRegion l listed → CommonRegion m listed
@@ -215,12 +209,12 @@ same-region l m listed e c =
     }
 
 -- ---- to read rectangles changes no place
-valid-all : (rs : List Rect) → All Valid rs → All Valid (asReadAll rs)
+pub valid-all : (rs : List Rect) → All Valid rs → All Valid (asReadAll rs)
 unfolding asReadAll
 valid-all [] v = tt
 valid-all (r ∷ l) v = (valid-read (v .0), valid-all l (v .1))
 
-read-all : (rs : List Rect) → All Read (asReadAll rs)
+pub read-all : (rs : List Rect) → All Read (asReadAll rs)
 unfolding asReadAll asRead
 read-all [] = tt
 read-all (r ∷ l) = (

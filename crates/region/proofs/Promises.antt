@@ -92,7 +92,7 @@ module _ (l : List Float) (f : Found) (d : List Interval) (p : IsFound l f d) (a
   some e =
       ap (λ (t : Bool). cond t [] (across (band (asReadAll (rectsOf l))) (common (lngs (asReadAll (rectsOf l))))))
       (ap (λ (b : Line). line.empty b) (sym (p .lat-is a)) ∙ e)
-      ∙ ap (λ (b : Line). across b (common (lngs (asReadAll (rectsOf l))))) (sym (p .lat-is a)) ∙ ap (λ (m : List Interval). across (f .lat) m) (sym (p .is a))
+      ∙ ap (λ (b : Line). across b (common (lngs (asReadAll (rectsOf l))))) (sym (p .lat-is a)) ∙ ap (λ (m : List Interval). across (f .lat) m) (sym (p .is a e))
 
 pub length-across : (b : Line) (l : List Interval) → length (across b l) ≡ length l
 unfolding across

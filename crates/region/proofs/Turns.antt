@@ -266,22 +266,26 @@ module _ (found : List Interval) (a : Interval) where
     pub step-first : (t : Bool) → whole found ≡ true → empty a ≡ t → step found a ≡ cond t [] (a ∷ [])
     step-first t w e = step-part ∙ ap (λ (u : Bool). cond u (cond (empty a) [] (a ∷ [])) (clip found a)) w ∙ ap (λ (u : Bool). cond u [] (a ∷ [])) e
 
-    pub step-open : (e o : Bool) (r s : Float) (p : List Interval) → whole found ≡ false → e ≡ empty a → o ≡ someHolds found (a .lo) false → r ≡ endAt (a .lo) (a .hi) found → p ≡ cut a found → s ≡ sooner (a .lo) r (a .hi)
-        → not e && o ≡ true → insert (ends (a .lo) s) p ≡ step found a
+    pub step-rest : whole found ≡ false → step found a ≡ clip found a
+    step-rest w = step-part ∙ ap (λ (u : Bool). cond u (cond (empty a) [] (a ∷ [])) (clip found a)) w
+
+  -- clipping, by whether the arc is EMPTY and whether a piece holds its western end
+  module _ (e o : Bool) (q : e ≡ empty a) (u : o ≡ someHolds found (a .lo) false) where
+    abbrev opened : Bool → List Interval
+    opened t = cond t (insert (ends (a .lo) (sooner (a .lo) (endAt (a .lo) (a .hi) found) (a .hi))) (cut a found)) (cut a found)
+
+    clip-is : clip found a ≡ opened (not e && o)
     unfolding clip
-    step-open e o r s p w q u x y z t =
-        sym (step-part ∙ ap (λ (u : Bool). cond u (cond (empty a) [] (a ∷ [])) (clip found a)) w
-        ∙ ap (λ (u : Bool). cond u (insert (ends (a .lo) (sooner (a .lo) (endAt (a .lo) (a .hi) found) (a .hi))) (cut a found)) (cut a found))
-        (ap (λ (v : Bool). not v && someHolds found (a .lo) false) (sym q) ∙ ap (λ (v : Bool). not e && v) (sym u) ∙ t)
+    clip-is = ap opened (ap (λ (v : Bool). not v && someHolds found (a .lo) false) (sym q) ∙ ap (λ (v : Bool). not e && v) (sym u))
+
+    pub clip-open : (r s : Float) (p : List Interval) → r ≡ endAt (a .lo) (a .hi) found → p ≡ cut a found → s ≡ sooner (a .lo) r (a .hi) → not e && o ≡ true → insert (ends (a .lo) s) p ≡ clip found a
+    clip-open r s p x y z t =
+        sym (clip-is ∙ ap opened t
         ∙ ap (λ (v : Float). insert (ends (a .lo) (sooner (a .lo) v (a .hi))) (cut a found)) (sym x) ∙ ap (λ (v : Float). insert (ends (a .lo) v) (cut a found)) (sym z)
         ∙ ap (λ (v : List Interval). insert (ends (a .lo) s) v) (sym y))
 
-    pub step-cut : (e o : Bool) → whole found ≡ false → e ≡ empty a → o ≡ someHolds found (a .lo) false → not e && o ≡ false → step found a ≡ cut a found
-    unfolding clip
-    step-cut e o w q u t =
-        step-part ∙ ap (λ (u : Bool). cond u (cond (empty a) [] (a ∷ [])) (clip found a)) w
-        ∙ ap (λ (u : Bool). cond u (insert (ends (a .lo) (sooner (a .lo) (endAt (a .lo) (a .hi) found) (a .hi))) (cut a found)) (cut a found))
-        (ap (λ (v : Bool). not v && someHolds found (a .lo) false) (sym q) ∙ ap (λ (v : Bool). not e && v) (sym u) ∙ t)
+    pub clip-cut : not e && o ≡ false → clip found a ≡ cut a found
+    clip-cut t = clip-is ∙ ap opened t
 
 pub first-one : (lo hi : List Float) (a : Interval) → 0 < length lo → length lo ≡ length hi → take 1 (zip (set lo 0 (a .lo)) (set hi 0 (a .hi))) ≡ a ∷ []
 unfolding zip

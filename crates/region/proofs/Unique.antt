@@ -14,7 +14,6 @@ use Rattle.r1.specs.Line as line
 use Rattle.r1.specs.Places.{InReach as LatReach}
 use Rattle.r1.proofs.Readings.{place-num}
 use Rattle.s1.specs.declared.interval.Interval.{Interval as Circle}
-use Rattle.s1.specs.Circle as circle
 use Rattle.s1.specs.Circle.{same}
 use Rattle.s1.specs.Places.{Place as LngPlace, Valid as LngValid, holds as lngHolds, Inside as LngInside}
 use Rattle.s1.proofs.Held.{at-PI, lo-num, hi-num, same-bwd}

@@ -3,10 +3,11 @@
 use mathlib.Core.Path.{_≡_}
 use mathlib.Core.Bool.{false}
 use mathlib.Core.List.{List, [], _∷_}
-use Prim.Native.Nat.{ℕ, _+_, _/_, _≤_}
+use Prim.Native.Nat.{ℕ, _+_, _*_, _/_, _≤_}
 use lib.ListN.{length, take}
 use lib.Ieee.{Float}
 use Rattle.consts.specs.Refusal.{number, accepted}
+use Rattle.r1.specs.Line as line
 use Rattle.s1.specs.declared.interval.Interval.{Interval}
 use Rattle.s1.specs.Circle.{ends}
 use Rattle.region.specs.declared.clip.Cut.{Cut}
@@ -37,5 +38,13 @@ pub record Firsts (n : ℕ) (l p : List Interval) (m : ℕ) : Type 0 where
 pub record IsFound (l : List Float) (f : Found) (d : List Interval) : Type 0 where
   pub refusal-is : f .refusal ≡ firstRefused (rectsOf l)
   pub lat-is : f .refusal ≡ number accepted → f .lat ≡ band (asReadAll (rectsOf l))
-  pub is : f .refusal ≡ number accepted → take (f .count) d ≡ common (lngs (asReadAll (rectsOf l)))
+  -- where the latitudes have something in common: else no piece is listed
+  pub is : f .refusal ≡ number accepted → line.empty (f .lat) ≡ false → take (f .count) d ≡ common (lngs (asReadAll (rectsOf l)))
   pub few : f .count ≤ length l / 4 + 1
+
+-- the arcs of the list of numbers l are the first of d, in the list's order
+pub record IsArcs (l : List Float) (f : Found) (d : List Interval) : Type 0 where
+  pub refusal-is : f .refusal ≡ firstRefused (rectsOf l)
+  pub lat-is : f .refusal ≡ number accepted → f .lat ≡ band (asReadAll (rectsOf l))
+  pub is : f .refusal ≡ number accepted → take (f .count) d ≡ lngs (asReadAll (rectsOf l))
+  pub few : 4 * f .count ≤ length l

@@ -3,3 +3,5 @@ pub mod Clipping
 pub mod Region
 pub mod Answers
 pub mod Arrays
+pub mod Fronts
+pub mod Permutations

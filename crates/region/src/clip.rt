@@ -4,12 +4,12 @@
 use s1::circle;
 use s1::interval::Interval;
 ghost use mathlib.Core.Path.{_≡_};
-ghost use mathlib.Core.Bool.{cond, not, _&&_};
+ghost use mathlib.Core.Bool.{false, cond, not, _&&_};
 ghost use Prim.Native.Nat.{ℕ, _+_, _<_, _≤_};
 ghost use lib.ListN.{length, take};
 ghost use lib.Dec.{eqb};
 ghost use Rattle.s1.specs.Circle.{fast, full};
-ghost use Rattle.region.specs.Clipping.{before, sooner, insert, step};
+ghost use Rattle.region.specs.Clipping.{before, sooner, insert, clip, step};
 ghost use Rattle.region.specs.Arrays.{zip, IsCut, Firsts};
 
 // Whether x is met no later than y, going east from s.
@@ -106,6 +106,21 @@ fn put(lo: &mut [f64], hi: &mut [f64], n: usize, x: Interval) -> usize
     n + 1
 }
 
+// The first n pieces, none of them FULL, clipped by an arc that is not FULL. How many they are then.
+pub(crate) fn clip_rest(lo: &mut [f64], hi: &mut [f64], n: usize, a: Interval) -> usize
+    requires { ⌜ (n ≤ 1000) × (n < length (now lo)) × (length (now lo) ≡ length (now hi)) ⌝ }
+    ensures { λ r. ⌜ Firsts r (zip (now (lo .exit)) (now (hi .exit))) (clip (take n (zip (now (lo .entry)) (now (hi .entry)))) a) n ⌝ }
+{
+    let c = cut_all(lo, hi, n, a);
+    if !circle::is_empty(a) & c.open {
+        let e = sooner(a.lo, c.end, a.hi);
+        let y = Interval { lo: a.lo, hi: e };
+        let k = c.n;
+        return put(lo, hi, k, y);
+    }
+    c.n
+}
+
 // Whether the first of m pieces is FULL.
 fn is_whole(m: usize, x: Interval) -> bool
     ensures { λ r. ⌜ r ≡ not (eqb m 0) && full x ⌝ }
@@ -133,12 +148,5 @@ pub(crate) fn clip_one(lo: &mut [f64], hi: &mut [f64], m: usize, a: Interval) ->
         hi[0] = a.hi;
         return 1;
     }
-    let c = cut_all(lo, hi, m, a);
-    if !circle::is_empty(a) & c.open {
-        let e = sooner(a.lo, c.end, a.hi);
-        let y = Interval { lo: a.lo, hi: e };
-        let k = c.n;
-        return put(lo, hi, k, y);
-    }
-    c.n
+    clip_rest(lo, hi, m, a)
 }

@@ -2,6 +2,7 @@
 // out to a second lent list in the same form. Each rectangle is read as every operation on one reads it
 // (the crate s2). A refusal alters no number.
 use crate::clip::clip_one;
+use crate::sorted::find_sorted;
 use consts::ACCEPTED;
 use consts::BAD_LIST;
 use consts::NO_ROOM;
@@ -32,14 +33,14 @@ pub struct Pieces {
 
 // What a list of rectangles comes to: its first refusal or, under 0, how many longitude pieces were
 // found and the common latitude band.
-struct Found {
-    refusal: u8,
-    count: usize,
-    lat: Line,
+pub(crate) struct Found {
+    pub(crate) refusal: u8,
+    pub(crate) count: usize,
+    pub(crate) lat: Line,
 }
 
 // The rectangle that starts at the number i, as it is read.
-fn read_at(list: &[f64], i: usize) -> One
+pub(crate) fn read_at(list: &[f64], i: usize) -> One
     requires { ⌜ i + 3 < length (now list) ⌝ }
     ensures { λ r. ⌜ r ≡ readOne (rectAt (now (list .entry)) i) ⌝ }
 {
@@ -53,6 +54,9 @@ fn read_at(list: &[f64], i: usize) -> One
     };
     read_one(Rect { lat, lng })
 }
+
+// So many pieces are clipped one by one. With more of them it pays to start again with sorted arcs.
+const MANY: usize = 32;
 
 // Reads the rectangles from the first, each met with the band and the pieces so far, which lie in `lo`
 // and `hi`.
@@ -68,6 +72,9 @@ fn find(list: &[f64], lo: &mut [f64], hi: &mut [f64]) -> Found
     let mut m = 1;
     let mut i = 0;
     while i < n {
+        if m > MANY {
+            return find_sorted(list, lo, hi);
+        }
         let x = read_at(list, i);
         if x.refusal != ACCEPTED {
             return Found {

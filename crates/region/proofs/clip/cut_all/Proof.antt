@@ -14,12 +14,6 @@ use Rattle.region.proofs.Turns.{zip-length, cut-turn, open-turn, end-tu
 use borrow.Author.Needs.{needs}
 use Rattle.region.proofs.clip.cut_all.Statement.{statement}
 use Rattle.region.proofs.clip.cut_all.Tie as tie
-use Rattle.region.proofs.clip.cut_all.Reads as reads
-use Rattle.region.proofs.clip.cut_all.Lts as lts
-use Rattle.s1.proofs.circle.fast_contains.Reads as fast-contains-reads
-use Rattle.region.proofs.clip.end_of.Reads as end-of-reads
-use Rattle.region.proofs.clip.past.Reads as past-reads
-use Rattle.region.proofs.clip.sooner.Reads as sooner-reads
 
 abbrev Inv-loop : tie.InvT-loop
 Inv-loop lo₀ hi₀ n a s t m₀ open₀ e₀ k₀ lo hi m «open» e k =

@@ -3,9 +3,6 @@ use mathlib.Core.Path.{sym}
 use borrow.Author.Needs.{needs}
 use Rattle.region.proofs.clip.end_of.Statement.{statement}
 use Rattle.region.proofs.clip.end_of.Tie as tie
-use Rattle.region.proofs.clip.end_of.Reads as reads
-use Rattle.region.proofs.clip.end_of.Lts as lts
-use Rattle.s1.proofs.circle.fast_contains.Reads as fast-contains-reads
 
 fast-contains-requires : tie.Need-fast-contains-requires
 fast-contains-requires c κs = search needs

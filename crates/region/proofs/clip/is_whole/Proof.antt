@@ -2,9 +2,6 @@
 use borrow.Author.Needs.{needs}
 use Rattle.region.proofs.clip.is_whole.Statement.{statement}
 use Rattle.region.proofs.clip.is_whole.Tie as tie
-use Rattle.region.proofs.clip.is_whole.Reads as reads
-use Rattle.region.proofs.clip.is_whole.Lts as lts
-use Rattle.s1.proofs.circle.is_full.Reads as is-full-reads
 
 is-full-requires : tie.Need-is-full-requires
 is-full-requires c κs = search needs

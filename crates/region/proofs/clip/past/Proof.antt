@@ -2,8 +2,6 @@
 use borrow.Author.Needs.{needs}
 use Rattle.region.proofs.clip.past.Statement.{statement}
 use Rattle.region.proofs.clip.past.Tie as tie
-use Rattle.region.proofs.clip.past.Reads as reads
-use Rattle.region.proofs.clip.past.Lts as lts
 
 add-result : tie.Need-add-result
 add-result c = search needs

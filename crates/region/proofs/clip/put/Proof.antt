@@ -15,8 +15,6 @@ use Rattle.region.proofs.Turns.{put-move, put-past, put-same, put-end}
 use borrow.Author.Needs.{needs}
 use Rattle.region.proofs.clip.put.Statement.{statement}
 use Rattle.region.proofs.clip.put.Tie as tie
-use Rattle.region.proofs.clip.put.Reads as reads
-use Rattle.region.proofs.clip.put.Lts as lts
 
 abbrev Inv-loop : tie.InvT-loop
 Inv-loop lo₀ hi₀ n c₀ moved₀ i₀ lo hi c moved i = (take i (zip lo hi) ++ walk moved c (drop i (take n (zip lo hi))) ≡ insert c₀ (take n (zip lo₀ hi₀))) × (i ≤ n) × (n ≤ 1024) × (n < length lo) × (length lo ≡ length hi) × (length lo ≡ length lo₀) × (length hi ≡ length hi₀)

@@ -4,9 +4,6 @@ use Rattle.region.specs.Clipping.{sooner}
 use borrow.Author.Needs.{needs}
 use Rattle.region.proofs.clip.sooner.Statement.{statement}
 use Rattle.region.proofs.clip.sooner.Tie as tie
-use Rattle.region.proofs.clip.sooner.Reads as reads
-use Rattle.region.proofs.clip.sooner.Lts as lts
-use Rattle.region.proofs.clip.is_before.Reads as is-before-reads
 
 is-before-requires : tie.Need-is-before-requires
 is-before-requires c κs = search needs

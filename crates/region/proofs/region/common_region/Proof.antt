@@ -6,9 +6,6 @@ use Rattle.region.proofs.Promises.{odd, long, bad-list, refused}
 use borrow.Author.Needs.{needs}
 use Rattle.region.proofs.region.common_region.Statement.{statement}
 use Rattle.region.proofs.region.common_region.Tie as tie
-use Rattle.region.proofs.region.common_region.Reads as reads
-use Rattle.region.proofs.region.common_region.Lts as lts
-use Rattle.region.proofs.region.region_in.Reads as region-in-reads
 
 returns : tie.Need-returns
 returns c =

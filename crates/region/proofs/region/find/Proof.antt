@@ -1,5 +1,5 @@
 -- `region::region::find`: the loop keeps that what was read so far is accepted, and that the pieces and the band so far, met with what is left
--- of the list, are those of the whole list. A turn is in proofs/Turns.antt. Assumes nothing.
+-- of the list, are those of the whole list. A turn is in proofs/Turns.antt. With many pieces `find_sorted` answers. Assumes nothing.
 use mathlib.Core.Path.{_≡_, refl, sym, ap, _∙_}
 use mathlib.Core.List.{List}
 use Prim.Native.Nat.{ℕ, _+_, _-_, _*_, _%_, _≤_, _<_}
@@ -18,11 +18,6 @@ use Rattle.region.proofs.Turns.{first-one, steps-turn, band-turn, refus
 use borrow.Author.Needs.{needs}
 use Rattle.region.proofs.region.find.Statement.{statement}
 use Rattle.region.proofs.region.find.Tie as tie
-use Rattle.region.proofs.region.find.Reads as reads
-use Rattle.region.proofs.region.find.Lts as lts
-use Rattle.r1.proofs.line.intersection.Reads as intersection-reads
-use Rattle.region.proofs.clip.clip_one.Reads as clip-one-reads
-use Rattle.region.proofs.region.read_at.Reads as read-at-reads
 
 abbrev Inv-loop : tie.InvT-loop
 Inv-loop list lo₀ hi₀ n lat₀ m₀ i₀ lo hi lat m i =
@@ -61,26 +56,38 @@ loop-holds c =
       refl,
     )
 
+find-sorted-requires : tie.Need-find-sorted-requires Inv-loop μ-loop
+find-sorted-requires c κs = search needs
+
+same-length : tie.Need-same-length Inv-loop μ-loop
+same-length c = c .before .before .before .before .find-sorted .kept .1 .0 ∙ c .before .before .before .before .before .before .before .before .before .loop .inv .11 ∙ simp length-set
+
+same-length-2 : tie.Need-same-length-2 Inv-loop μ-loop
+same-length-2 c = c .before .before .before .before .find-sorted .kept .1 .1 .0 ∙ c .before .before .before .before .before .before .before .before .before .loop .inv .12 ∙ simp length-set
+
+returns : tie.Need-returns Inv-loop μ-loop
+returns c = c .before .before .before .before .find-sorted .ensures
+
 read-at-requires : tie.Need-read-at-requires Inv-loop μ-loop
 read-at-requires c κs = search needs
 
-same-length : tie.Need-same-length Inv-loop μ-loop
-same-length c = c .before .before .before .before .loop .inv .11 ∙ simp length-set
+same-length-3 : tie.Need-same-length-3 Inv-loop μ-loop
+same-length-3 c = c .before .before .before .before .before .loop .inv .11 ∙ simp length-set
 
-same-length-2 : tie.Need-same-length-2 Inv-loop μ-loop
-same-length-2 c = c .before .before .before .before .loop .inv .12 ∙ simp length-set
+same-length-4 : tie.Need-same-length-4 Inv-loop μ-loop
+same-length-4 c = c .before .before .before .before .before .loop .inv .12 ∙ simp length-set
 
-returns : tie.Need-returns Inv-loop μ-loop
-returns c =
-    let at = c .before .before .before .before in
+returns-2 : tie.Need-returns-2 Inv-loop μ-loop
+returns-2 c =
+    let at = c .before .before .before .before .before in
     let v = at .loop in
     let l = at .before .before .before .before .before .args .list .now in
     let h : v .i + 3 < length l = omega arith in
     let r = c .before .before .read-at in
     record {
-      refusal-is = sym (v .inv .2 ∙ refused-here l (v .i) h (r .result .refusal) (ap (λ (x : One). x .refusal) (r .ensures)) (c .if1 .taken));
-      lat-is = λ e. absurd (c .if1 .taken e);
-      is = λ e. absurd (c .if1 .taken e);
+      refusal-is = sym (v .inv .2 ∙ refused-here l (v .i) h (r .result .refusal) (ap (λ (x : One). x .refusal) (r .ensures)) (c .if2 .taken));
+      lat-is = λ e. absurd (c .if2 .taken e);
+      is = λ e z. absurd (c .if2 .taken e);
       few = omega arith;
     }
 
@@ -98,7 +105,7 @@ loop-less c = search needs
 
 loop-again : tie.Need-loop-again Inv-loop μ-loop
 loop-again c =
-    let at = c .before .before .before .before .before .before .before .before .before .before .before .before in
+    let at = c .before .before .before .before .before .before .before .before .before .before .before .before .before in
     let v = at .loop in
     let l = at .before .before .before .before .before .args .list .now in
     let h : v .i + 3 < length l = omega arith in
@@ -108,7 +115,7 @@ loop-again c =
     let found : List Interval = take (v .m) (zip (v .lo) (v .hi)) in (
       steps-turn l (v .i) h found (take (k .result) (zip (k .last .0) (k .last .1 .0))) (k .ensures .is ∙ ap (λ (x : One). step found (x .value .lng)) (r .ensures)) ∙ v .inv .0,
       band-turn l (v .i) h (v .lat) (b .result) (b .ensures ∙ ap (λ (x : One). line.overlap (v .lat) (x .value .lat)) (r .ensures)) ∙ v .inv .1,
-      v .inv .2 ∙ accepted-here l (v .i) h (r .result .refusal) (ap (λ (x : One). x .refusal) (r .ensures)) (c .before .before .before .before .before .before .before .before .if1 .left),
+      v .inv .2 ∙ accepted-here l (v .i) h (r .result .refusal) (ap (λ (x : One). x .refusal) (r .ensures)) (c .before .before .before .before .before .before .before .before .if2 .left),
       omega (arith, k .ensures .few),
       omega arith,
       omega arith,
@@ -121,14 +128,14 @@ loop-again c =
       omega (arith, k .kept .0, k .kept .1 .0),
     )
 
-same-length-3 : tie.Need-same-length-3 Inv-loop μ-loop
-same-length-3 c = c .before .loop .inv .11 ∙ simp length-set
+same-length-5 : tie.Need-same-length-5 Inv-loop μ-loop
+same-length-5 c = c .before .loop .inv .11 ∙ simp length-set
 
-same-length-4 : tie.Need-same-length-4 Inv-loop μ-loop
-same-length-4 c = c .before .loop .inv .12 ∙ simp length-set
+same-length-6 : tie.Need-same-length-6 Inv-loop μ-loop
+same-length-6 c = c .before .loop .inv .12 ∙ simp length-set
 
-returns-2 : tie.Need-returns-2 Inv-loop μ-loop
-returns-2 c =
+returns-3 : tie.Need-returns-3 Inv-loop μ-loop
+returns-3 c =
     let v = c .before .loop in
     let l = c .before .before .before .before .before .before .args .list .now in
     let e : v .i ≡ length l = omega arith in
@@ -136,7 +143,7 @@ returns-2 c =
     record {
       refusal-is = sym (v .inv .2 ∙ ap (λ (j : ℕ). firstRefused (rectsOf (drop j l))) e ∙ accepted-end l);
       lat-is = λ z. band-end l (v .lat) ∙ ap (λ (j : ℕ). bandFrom (v .lat) (asReadAll (rectsOf (drop j l)))) (sym e) ∙ v .inv .1;
-      is = λ z. steps-end l found ∙ ap (λ (j : ℕ). steps found (lngs (asReadAll (rectsOf (drop j l))))) (sym e) ∙ v .inv .0;
+      is = λ z w. steps-end l found ∙ ap (λ (j : ℕ). steps found (lngs (asReadAll (rectsOf (drop j l))))) (sym e) ∙ v .inv .0;
       few = omega arith;
     }
 
@@ -149,15 +156,19 @@ find-spec =
     slice-write-lo
     slice-write-hi
     loop-holds
-    read-at-requires
+    find-sorted-requires
     same-length
     same-length-2
     returns
+    read-at-requires
+    same-length-3
+    same-length-4
+    returns-2
     intersection-requires
     clip-one-requires
     add-i
     loop-less
     loop-again
-    same-length-3
-    same-length-4
-    returns-2)
+    same-length-5
+    same-length-6
+    returns-3)

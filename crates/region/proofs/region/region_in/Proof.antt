@@ -14,11 +14,6 @@ use Rattle.region.proofs.Promises.{good, bad-entry, no-room, refused, g
 use borrow.Author.Needs.{needs}
 use Rattle.region.proofs.region.region_in.Statement.{statement}
 use Rattle.region.proofs.region.region_in.Tie as tie
-use Rattle.region.proofs.region.region_in.Reads as reads
-use Rattle.region.proofs.region.region_in.Lts as lts
-use Rattle.r1.proofs.line.is_empty.Reads as is-empty-reads
-use Rattle.region.proofs.region.find.Reads as find-reads
-use Rattle.region.proofs.region.write_out.Reads as write-out-reads
 
 find-requires : tie.Need-find-requires
 find-requires c κs = search needs

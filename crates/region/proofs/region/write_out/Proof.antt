@@ -12,8 +12,6 @@ use Rattle.region.proofs.Written.{out-none, out-turn}
 use borrow.Author.Needs.{needs}
 use Rattle.region.proofs.region.write_out.Statement.{statement}
 use Rattle.region.proofs.region.write_out.Tie as tie
-use Rattle.region.proofs.region.write_out.Reads as reads
-use Rattle.region.proofs.region.write_out.Lts as lts
 
 abbrev Inv-loop : tie.InvT-loop
 Inv-loop lo hi n b out₀ k₀ out k = (out ≡ numbers (across b (take k (zip lo hi))) ++ drop (4 * k) out₀) × (k ≤ n) × (n ≤ 1024) × (n ≤ length lo) × (length lo ≡ length hi) × (4 * n ≤ length out₀) × (length out ≡ length out₀)
