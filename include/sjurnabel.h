@@ -33,7 +33,7 @@
  *
  * THREADS. There is no state: any function may be called from any number of threads at once, as long as what one
  * call writes is not read or written by another. The largest need of stack is that of
- * sjurnabel_common_region, about 10 kB.
+ * sjurnabel_common_region, about 20 kB.
  *
  * The calling convention and the layouts are those of x86-64 Linux.
  */
