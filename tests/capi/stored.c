@@ -148,7 +148,9 @@ int main(int argc, char **argv) {
         failed++;
         printf("%.300s\n  stored  %.300s\n  library %.300s\n", question, stored, answer);
     }
-    for (kind = 0; kind <= PLAIN; kind++) if (asked[kind] < 100) failed++, printf("only %zu questions %s\n", asked[kind], kind < PLAIN ? plain[kind].name : "common");
+    static const char *const lists[] = {"common", "growth", "scan"};
+    for (kind = 0; kind < PLAIN + 3; kind++)
+        if (asked[kind] < 100) failed++, printf("only %zu questions %s\n", asked[kind], kind < PLAIN ? plain[kind].name : lists[kind - PLAIN]);
     printf("%zu passed, %zu failed\n", passed, failed);
     return failed != 0;
 }
