@@ -2,9 +2,9 @@
 
 use std::io::{self, BufRead, Write};
 
+use crate::beside;
 use crate::differences;
 use crate::lines::Lines;
-use crate::lists;
 use crate::ops::{Op, Value};
 use crate::question;
 use crate::refusals;
@@ -49,6 +49,13 @@ impl Answer {
                 text.push_str(&format!(" {count}"));
                 numbers.iter().for_each(|x| text.push_str(&digits(*x)));
             }
+            Value::Bounds(bounds) => bounds.iter().for_each(|number| text.push_str(&format!(" {number}"))),
+            Value::Text(count, output) => {
+                text.push_str(&format!(" {count}"));
+                if !output.is_empty() {
+                    text.push_str(&format!(" {}", String::from_utf8_lossy(output)));
+                }
+            }
         }
         text
     }
@@ -62,7 +69,7 @@ fn digits(x: f64) -> String {
 
 /// What the oracle answers to a line, without newlines.
 pub fn answer_line(line: &[u8]) -> String {
-    if let Some(asked) = lists::read(line) {
+    if let Some(asked) = beside::read(line) {
         return asked.answer().text();
     }
     match question::read(line) {

@@ -1,10 +1,13 @@
 //! A small check of the oracle itself: worked answers, the remainder by exact whole numbers, our tests
-//! of validity against the crate's, and the statements over places that hold for the crate.
+//! of validity against the crate's, the statements over places that hold for the crate, and the reference
+//! of GeoJSON boxes.
 
 use crate::answer::answer_line;
+use crate::bbox;
+use crate::boxes;
 use crate::common;
 use crate::draw;
-use crate::examples::{self, streams::Worked};
+use crate::examples;
 use crate::layers::consts::TWO_PI;
 use crate::ops::{self, Value};
 use crate::places;
@@ -14,7 +17,8 @@ use crate::rng::Rng;
 use crate::streams;
 
 /// How many remainders, pairs of circle intervals, pairs of rectangles, lists of rectangles, lists of
-/// points, streams, and questions of validity.
+/// points, streams, questions of validity, texts, boxes written and read, boxes whose text is shortened,
+/// boxes in radians, and inputs of `boxes`.
 const REMAINDERS: usize = 1_000_000;
 const CIRCLE_PAIRS: usize = 200_000;
 const RECT_PAIRS: usize = 100_000;
@@ -22,14 +26,21 @@ const LISTS: usize = 50_000;
 const POINT_LISTS: usize = 50_000;
 const STREAMS: usize = 5_000;
 const VALIDITY_TESTS: usize = 200_000;
+const TEXTS: usize = 500_000;
+const ROUND_TRIPS: usize = 500_000;
+const SHORTENED: usize = 2_000;
+const RADIANS: usize = 500_000;
+const INPUTS: usize = 5_000;
 
 /// Prints what is wrong; gives the number of faults.
 pub fn run() -> usize {
-    let worked: usize = examples::ALL.iter().map(|part| part.len()).sum();
-    let streams = examples::streams::worked();
+    let worked = worked();
+    let (streams, inputs) = (examples::streams::worked(), examples::boxes::worked());
+    let (texts, misread) = bbox::checks::readings(TEXTS);
     [
-        ("worked answers", worked, worked_answers()),
-        ("worked streams", streams.len(), worked_streams(&streams)),
+        ("worked answers", worked.len(), worked_answers(&worked)),
+        ("worked streams", streams.len(), worked_inputs(&streams, streams::answer)),
+        ("worked inputs of boxes", inputs.len(), worked_inputs(&inputs, boxes::answer)),
         ("exact remainders", REMAINDERS, exact_remainders()),
         ("tests of validity against the crate's", VALIDITY_TESTS, validity_tests()),
         ("pairs of circle intervals against places", CIRCLE_PAIRS, places::circle::faults(CIRCLE_PAIRS)),
@@ -37,6 +48,11 @@ pub fn run() -> usize {
         ("lists of rectangles against places", LISTS, places::common::faults(LISTS)),
         ("lists of points against places", POINT_LISTS, places::growth::faults(POINT_LISTS)),
         ("streams against the same lists", STREAMS, streams_as_lists()),
+        ("texts taken apart another way", texts, misread),
+        ("boxes written and read", ROUND_TRIPS, bbox::checks::round_trips(ROUND_TRIPS)),
+        ("boxes whose text cannot be shortened", SHORTENED, bbox::checks::fewest(SHORTENED)),
+        ("boxes in radians", RADIANS, bbox::checks::radians(RADIANS)),
+        ("inputs of boxes against the same rectangles", INPUTS, inputs_as_rectangles()),
     ]
     .into_iter()
     .map(|(what, count, wrong)| {
@@ -46,12 +62,18 @@ pub fn run() -> usize {
     .sum()
 }
 
-fn worked_answers() -> usize {
+/// Questions and their answers, as the protocol writes them.
+fn worked() -> Vec<(String, String)> {
+    let spelled = examples::ALL.iter().flat_map(|part| part.iter());
+    let written = spelled.map(|(asked, expected)| (examples::written(asked), examples::written(expected)));
+    written.chain(examples::bbox::texts()).collect()
+}
+
+fn worked_answers(worked: &[(String, String)]) -> usize {
     let mut faults = 0;
-    for (question, expected) in examples::ALL.iter().flat_map(|part| part.iter()) {
-        let (question, expected) = (examples::written(question), examples::written(expected));
+    for (question, expected) in worked {
         let got = answer_line(question.as_bytes());
-        if got != expected {
+        if got != *expected {
             println!("'{question}'\n  answers  {got}\n  expected {expected}");
             faults += 1;
         }
@@ -59,12 +81,31 @@ fn worked_answers() -> usize {
     faults
 }
 
-fn worked_streams(worked: &[Worked]) -> usize {
+/// A name, the bytes of an input and what is expected, for each worked input of a program.
+fn worked_inputs(worked: &[(String, Vec<u8>, String)], answer: fn(&[u8]) -> String) -> usize {
     let mut faults = 0;
     for (name, bytes, expected) in worked {
-        let got = streams::answer(bytes);
+        let got = answer(bytes);
         if got != *expected {
-            println!("stream '{name}'\n  answers  {got:?}\n  expected {expected:?}");
+            println!("input '{name}'\n  answers  {got:?}\n  expected {expected:?}");
+            faults += 1;
+        }
+    }
+    faults
+}
+
+/// The region of boxes by whole numbers, turned into radians piece by piece, is the common region of the
+/// boxes turned into radians.
+fn inputs_as_rectangles() -> usize {
+    let mut rng = Rng::new(1, "inputs as rectangles");
+    let mut faults = 0;
+    for _ in 0..INPUTS {
+        let count = rng.below(20);
+        let drawn = boxes::draw::boxes(&mut rng, count);
+        let rects: Vec<[f64; 4]> = drawn.iter().map(|bounds| bbox::rect_of(*bounds)).collect();
+        let pieces: Vec<[f64; 4]> = boxes::region::pieces(&drawn).into_iter().map(bbox::rect_of).collect();
+        if common::region::pieces(&rects) != pieces {
+            println!("boxes {drawn:?}: {pieces:?}, as rectangles {:?}", common::region::pieces(&rects));
             faults += 1;
         }
     }

@@ -1,6 +1,7 @@
 //! Drawing the numbers of a question: mostly edge values and their neighbours, and numbers that stand
 //! in a relation to the earlier ones of the same question, so that ties and near misses are common.
 
+pub mod bbox;
 pub mod circle;
 pub mod list;
 pub mod points;

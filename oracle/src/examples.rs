@@ -1,5 +1,7 @@
 //! Questions whose answers follow from document 01 and the protocol, by hand.
 
+pub mod bbox;
+pub mod boxes;
 mod circle;
 mod common;
 mod growth;
@@ -12,7 +14,8 @@ use std::f64::consts::PI;
 /// Questions and their answers. A number may be spelled for the reader: with a point, or as PI.
 pub type Worked = &'static [(&'static str, &'static str)];
 
-pub const ALL: &[Worked] = &[line::WORKED, circle::WORKED, rect::WORKED, common::WORKED, growth::WORKED];
+pub const ALL: &[Worked] =
+    &[line::WORKED, circle::WORKED, rect::WORKED, common::WORKED, growth::WORKED, bbox::WORKED];
 
 /// The text as the protocol writes it: every spelled number as its bit pattern. The first word is an
 /// operation's name or a refusal number, never a number.

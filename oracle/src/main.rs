@@ -2,6 +2,9 @@
 //! the two. The scripts in the folder above run it; README.md there says how.
 
 mod answer;
+mod bbox;
+mod beside;
+mod boxes;
 mod check;
 mod common;
 mod differences;
@@ -11,11 +14,11 @@ mod examples;
 mod growth;
 mod layers;
 mod lines;
-mod lists;
 mod malformed;
 mod ops;
 mod places;
 mod plan;
+mod programs;
 mod question;
 mod refusals;
 mod rng;
@@ -26,10 +29,11 @@ mod vectors;
 use std::io::{self, Read, Write};
 use std::process::ExitCode;
 
-use streams::compare::Tried;
+use programs::{Program, Tried};
 
 const USAGE: &str = "usage: oracle answer | questions COUNT SEED | tally [--arms] QUESTIONS JUDGE OTHER
-       | vectors | edges DIR | check | stream-answer | streams COUNT SEED COMMAND LIMIT DIR | cases";
+       | vectors | edges DIR | check | cases | stream-answer | streams COUNT SEED COMMAND LIMIT DIR
+       | boxes-answer | boxes COUNT SEED COMMAND LIMIT DIR";
 
 fn main() -> ExitCode {
     let words: Vec<String> = std::env::args().skip(1).collect();
@@ -54,21 +58,27 @@ fn run(words: &[&str]) -> io::Result<u8> {
         ["vectors"] => io::stdout().write_all(&vectors::bytes()).map(|_| 0),
         ["edges", folder] => write_edges(folder).map(|_| 0),
         ["check"] => Ok(u8::from(check::run() > 0)),
-        ["stream-answer"] => stream_answer().map(|_| 0),
+        ["stream-answer"] => program_answer(&streams::PROGRAM).map(|_| 0),
+        ["boxes-answer"] => program_answer(&boxes::PROGRAM).map(|_| 0),
         ["streams", count, seed, command, limit, folder] => {
-            streams::compare::run(whole(count)? as usize, whole(seed)?, &Tried { command, limit, folder })
+            let tried = Tried { command, limit, folder };
+            programs::run(&streams::PROGRAM, whole(count)? as usize, whole(seed)?, &tried)
+        }
+        ["boxes", count, seed, command, limit, folder] => {
+            let tried = Tried { command, limit, folder };
+            programs::run(&boxes::PROGRAM, whole(count)? as usize, whole(seed)?, &tried)
         }
         ["cases"] => io::stdout().write_all(streams::cases::text().as_bytes()).map(|_| 0),
         _ => Err(io::Error::other(USAGE)),
     }
 }
 
-/// What the program `common` writes for this standard input.
-fn stream_answer() -> io::Result<()> {
+/// What the program writes for this standard input.
+fn program_answer(program: &Program) -> io::Result<()> {
     let mut bytes = Vec::new();
     let text = match io::stdin().lock().read_to_end(&mut bytes) {
-        Ok(_) => streams::answer(&bytes),
-        Err(_) => streams::answer_unread(),
+        Ok(_) => (program.answer)(&bytes),
+        Err(_) => (program.unread)(),
     };
     io::stdout().write_all(text.as_bytes())
 }

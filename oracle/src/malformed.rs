@@ -1,8 +1,8 @@
 //! Lines that are no question, of every kind that the protocol names.
 
+use crate::beside::{self, Kind};
 use crate::draw;
 use crate::growth;
-use crate::lists::{self, Kind};
 use crate::ops::{self, Op};
 use crate::question;
 use crate::rng::Rng;
@@ -57,6 +57,53 @@ pub const LIST_KINDS: &[(&str, Spoil)] = &[
     ("a list too long", |line, _| line.extend(b" 3FF0000000000000".repeat(growth::MOST_NUMBERS + 1))),
 ];
 
+/// Ways to spoil a line with a text in digits or with decimal numbers, beside those of any line. What
+/// spoils the one may leave the other as good as it was.
+pub const BOX_KINDS: &[(&str, Spoil)] = &[
+    ("a plus", |line, rng| at_a_word(line, rng, |word, _| word.insert(0, b'+'))),
+    ("a needless zero", |line, rng| {
+        at_a_word(line, rng, |word, _| word.insert(usize::from(word.first() == Some(&b'-')), b'0'))
+    }),
+    ("a lone minus", |line, rng| at_a_word(line, rng, |word, _| *word = b"-".to_vec())),
+    ("two minuses", |line, rng| at_a_word(line, rng, |word, _| word.splice(0..0, *b"--").for_each(drop))),
+    ("a minus after", |line, rng| at_a_word(line, rng, |word, _| word.push(b'-'))),
+    ("a point", |line, rng| at_a_word(line, rng, |word, _| word.extend(b".0"))),
+    ("an exponent", |line, rng| at_a_word(line, rng, |word, _| word.extend(b"e00"))),
+    ("a sign between digits", |line, rng| {
+        at_a_word(line, rng, |word, rng| word.insert(rng.below(word.len() + 1), rng.pick(b"_,.'-+:gG")))
+    }),
+    ("0x", |line, rng| at_a_word(line, rng, |word, _| word.splice(0..0, *b"0x").for_each(drop))),
+    ("a digit of another base", |line, rng| at_a_word(line, rng, |word, _| word.push(b'A'))),
+    ("a word lost", |line, rng| {
+        let mut words: Vec<&[u8]> = line.split(|byte| *byte == b' ').collect();
+        words.remove(1 + rng.below(words.len() - 1));
+        *line = words.join(&b' ');
+    }),
+    ("a word twice", |line, rng| {
+        at_a_word(line, rng, |word, _| *word = [&word[..], &word[..]].join(&b' '));
+    }),
+    ("a room too large", |line, rng| {
+        at_a_word(line, rng, |word, rng| *word = rng.pick(&[&b"100"[..], b"999", b"1000", b"-1"]).to_vec())
+    }),
+];
+
+/// Changes one word of the line after its name.
+fn at_a_word(line: &mut Vec<u8>, rng: &mut Rng, change: fn(&mut Vec<u8>, &mut Rng)) {
+    let mut words: Vec<Vec<u8>> = line.split(|byte| *byte == b' ').map(<[u8]>::to_vec).collect();
+    let at = 1 + rng.below(words.len() - 1);
+    change(&mut words[at], rng);
+    *line = words.join(&b' ');
+}
+
+/// The ways to spoil a question beside the table.
+pub fn kinds_of(kind: Kind) -> Vec<(&'static str, Spoil)> {
+    let own = match kind {
+        Kind::Common | Kind::Points(_) => LIST_KINDS,
+        Kind::Box(_) => BOX_KINDS,
+    };
+    [KINDS, own].concat()
+}
+
 /// Puts this in place of the bar and the space before it.
 fn at_the_bar(line: &mut Vec<u8>, with: &[u8]) {
     if let Some(bar) = line.iter().position(|byte| *byte == b'|') {
@@ -95,8 +142,8 @@ pub fn of_kind(rng: &mut Rng, op: &Op, spoil: Spoil) -> Vec<u8> {
     line
 }
 
-/// A spoilt question with a list.
-pub fn list_of_kind(rng: &mut Rng, kind: Kind, spoil: Spoil) -> Vec<u8> {
+/// A spoilt question beside the table.
+pub fn beside_of_kind(rng: &mut Rng, kind: Kind, spoil: Spoil) -> Vec<u8> {
     let mut line = kind.short(rng).write().into_bytes();
     spoil(&mut line, rng);
     line
@@ -104,16 +151,17 @@ pub fn list_of_kind(rng: &mut Rng, kind: Kind, spoil: Spoil) -> Vec<u8> {
 
 /// Whether a line is no question of any kind.
 pub fn is_none(line: &[u8]) -> bool {
-    question::read(line).is_none() && lists::read(line).is_none()
+    question::read(line).is_none() && beside::read(line).is_none()
 }
 
-/// Any line that is no question: of eight one with a list.
+/// Any line that is no question: of eight two of those beside the table.
 pub fn any(rng: &mut Rng) -> Vec<u8> {
     let all: Vec<&Op> = ops::all().collect();
     loop {
-        let line = if rng.below(8) == 0 {
-            let (kind, (_, spoil)) = (rng.pick(&lists::ALL), rng.pick(&[KINDS, LIST_KINDS].concat()));
-            list_of_kind(rng, kind, spoil)
+        let line = if rng.below(8) < 2 {
+            let kind = rng.pick(&beside::ALL);
+            let (_, spoil) = rng.pick(&kinds_of(kind));
+            beside_of_kind(rng, kind, spoil)
         } else {
             let (op, (_, spoil)) = (rng.pick(&all), rng.pick(KINDS));
             of_kind(rng, op, spoil)

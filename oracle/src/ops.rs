@@ -78,6 +78,10 @@ pub enum Value {
     Unbounded,
     /// the count of pieces, and the whole output list
     Pieces(usize, Vec<f64>),
+    /// a box of whole numbers: west, south, east, north
+    Bounds([i64; 4]),
+    /// the count of bytes written, and the whole output text
+    Text(usize, Vec<u8>),
 }
 
 /// A function that names each arm of the Rust function that the given numbers reach.

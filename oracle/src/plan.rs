@@ -2,8 +2,8 @@
 //! every arm of the Rust function, yes and no are reached many times whatever the seed.
 
 use crate::answer::answer;
+use crate::beside::{self, Asked, Kind};
 use crate::draw;
-use crate::lists::{self, Asked, Kind};
 use crate::malformed;
 use crate::ops::{self, Arm, Gives, Op, Role, Value};
 use crate::question;
@@ -94,21 +94,21 @@ pub fn aimed(rng: &mut Rng, op: &Op, aim: Aim) -> Vec<f64> {
     drawn
 }
 
-/// A question with a list at this place of the questions: one in 200 is long, and of eight short ones one
-/// is aimed at a refusal and three at an arm.
-fn list_at(rng: &mut Rng, kind: Kind, place: usize) -> Asked {
+/// A question beside the table at this place of the questions: one in 200 is long, and of eight short ones
+/// one is aimed at a refusal and three at an arm.
+fn beside_at(rng: &mut Rng, kind: Kind, place: usize) -> Asked {
     let (round, slot) = (place / 8, place % 8);
     let (refusals, aims) = (kind.refusals(), kind.aims());
     match slot {
         _ if place % 200 == 199 => kind.long(rng),
-        0 => aimed_list(rng, kind, Aim::Refusal(refusals[round % refusals.len()])),
-        1..=3 => aimed_list(rng, kind, Aim::Arm(aims[(round * 3 + slot - 1) % aims.len()])),
+        0 => aimed_beside(rng, kind, Aim::Refusal(refusals[round % refusals.len()])),
+        1..=3 => aimed_beside(rng, kind, Aim::Arm(aims[(round * 3 + slot - 1) % aims.len()])),
         _ => kind.short(rng),
     }
 }
 
-/// Draws short lists until the aim is reached.
-pub fn aimed_list(rng: &mut Rng, kind: Kind, aim: Aim) -> Asked {
+/// Draws short questions until the aim is reached.
+pub fn aimed_beside(rng: &mut Rng, kind: Kind, aim: Aim) -> Asked {
     let reached = |asked: &Asked| match aim {
         Aim::Refusal(wanted) => asked.refusal() == wanted,
         Aim::Arm(wanted) => asked.arms_reached().contains(&wanted),
@@ -129,8 +129,8 @@ pub fn written(rng: &mut Rng, op: &Op, numbers: &[f64]) -> Vec<u8> {
     in_some_case(rng, question::write(op, numbers), op.name)
 }
 
-/// The same for a list.
-pub fn written_list(rng: &mut Rng, asked: &Asked) -> Vec<u8> {
+/// The same for a question beside the table.
+pub fn written_beside(rng: &mut Rng, asked: &Asked) -> Vec<u8> {
     in_some_case(rng, asked.write(), asked.kind().name())
 }
 
@@ -149,7 +149,7 @@ fn in_some_case(rng: &mut Rng, line: String, name: &str) -> Vec<u8> {
     line
 }
 
-/// Hands `count` questions of every operation to `put`, those with lists too, then malformed lines.
+/// Hands `count` questions of every operation to `put`, those beside the table too, then malformed lines.
 pub fn questions(count: usize, seed: u64, put: &mut dyn FnMut(&[u8])) {
     for op in ops::all() {
         let mut rng = Rng::new(seed, op.name);
@@ -158,11 +158,11 @@ pub fn questions(count: usize, seed: u64, put: &mut dyn FnMut(&[u8])) {
             put(&written(&mut rng, op, &drawn));
         }
     }
-    for kind in lists::ALL {
+    for kind in beside::ALL {
         let mut rng = Rng::new(seed, kind.name());
         for place in 0..count {
-            let asked = list_at(&mut rng, kind, place);
-            put(&written_list(&mut rng, &asked));
+            let asked = beside_at(&mut rng, kind, place);
+            put(&written_beside(&mut rng, &asked));
         }
     }
     let mut rng = Rng::new(seed, "malformed");

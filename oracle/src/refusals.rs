@@ -1,5 +1,5 @@
-//! Document 01's refusals: when an operation refuses, and what it hands back then. This is code of
-//! our own. The crate has no refusals, and nothing here calls it.
+//! Document 01's refusals, with the numbers of document 02: when an operation refuses, and what it hands
+//! back then. This is code of our own. The crate has no refusals, and nothing here calls it.
 
 use std::f64::consts::{FRAC_PI_2, PI};
 
@@ -22,6 +22,8 @@ pub const BAD_AMOUNT: u8 = 4;
 pub const BAD_LENGTH: u8 = 5;
 pub const NO_ROOM: u8 = 6;
 pub const BAD_RECORD: u8 = 7;
+pub const BAD_TEXT: u8 = 8;
+pub const BAD_BOUNDS: u8 = 9;
 
 /// No NaN, and of a size that the port takes. (A comparison with a NaN is false.)
 pub fn in_reach(x: f64) -> bool {

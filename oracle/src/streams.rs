@@ -3,12 +3,11 @@
 //! and the first fault decides: a short record or a wrong mark, then a record too many, then its numbers.
 
 pub mod cases;
-pub mod compare;
 mod draw;
-mod feed;
 
 use crate::common::{region, MOST_RECTS};
 use crate::ops::Role;
+use crate::programs::{self, Program};
 use crate::refusals::{fault, ACCEPTED, BAD_LENGTH, BAD_RECORD};
 
 pub type Rect = [f64; 4];
@@ -16,6 +15,27 @@ pub type Rect = [f64; 4];
 /// How a record begins, and how many bytes it has: the mark, then four little-endian doubles.
 pub const MARK: [u8; 2] = [0x52, 0x31];
 pub const RECORD: usize = MARK.len() + 4 * 8;
+
+/// The program, for a run on drawn streams.
+pub const PROGRAM: Program = Program {
+    inputs: "streams",
+    // The program `common_cases` has those at the edges.
+    known: Vec::new,
+    draw: draw::stream,
+    answer,
+    unread: answer_unread,
+    kinds: KINDS,
+    kind,
+    shown: programs::hex,
+};
+
+const KINDS: &[&str] =
+    &["pieces 0", "pieces 1", "pieces 2", "pieces 3+", "refused 1", "refused 2", "refused 5", "refused 7"];
+
+fn kind(answer: &str) -> &'static str {
+    let first = answer.lines().next().unwrap_or("");
+    KINDS.iter().find(|kind| **kind == first).unwrap_or(&"pieces 3+")
+}
 
 /// A rectangle as a record.
 pub fn record(rect: Rect) -> Vec<u8> {

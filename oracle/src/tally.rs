@@ -6,9 +6,9 @@ use std::f64::consts::{FRAC_PI_2, PI};
 use std::fs::File;
 use std::io::{self, BufReader};
 
+use crate::beside::{self, Asked, Kind};
 use crate::differences;
 use crate::lines::Lines;
-use crate::lists::{self, Asked, Kind};
 use crate::ops::{self, Arm, Gives, Op};
 use crate::plan;
 use crate::question;
@@ -76,8 +76,8 @@ impl Row {
         }
     }
 
-    /// Counts what a list reaches.
-    fn add_list(&mut self, asked: &Asked) {
+    /// Counts what a question beside the table reaches.
+    fn add_beside(&mut self, asked: &Asked) {
         for arm in asked.arms_reached() {
             *self.arms.entry(arm).or_default() += 1;
         }
@@ -114,7 +114,7 @@ fn shown(line: Option<&[u8]>) -> String {
 #[derive(Clone, Copy)]
 enum About {
     Op(&'static Op),
-    List(Kind),
+    Beside(Kind),
     Malformed,
 }
 
@@ -122,7 +122,7 @@ impl About {
     fn name(self) -> &'static str {
         match self {
             About::Op(op) => op.name,
-            About::List(kind) => kind.name(),
+            About::Beside(kind) => kind.name(),
             About::Malformed => "(malformed)",
         }
     }
@@ -131,7 +131,7 @@ impl About {
     fn refusals(self) -> Vec<u8> {
         match self {
             About::Op(op) => refusals::possible(op),
-            About::List(kind) => kind.refusals().to_vec(),
+            About::Beside(kind) => kind.refusals().to_vec(),
             About::Malformed => Vec::new(),
         }
     }
@@ -139,7 +139,7 @@ impl About {
     fn arms(self) -> Vec<Arm> {
         match self {
             About::Op(op) => plan::arms(op),
-            About::List(kind) => kind.arms(),
+            About::Beside(kind) => kind.arms(),
             About::Malformed => Vec::new(),
         }
     }
@@ -147,13 +147,13 @@ impl About {
     fn gives(self) -> Option<Gives> {
         match self {
             About::Op(op) => Some(op.gives),
-            About::List(_) | About::Malformed => None,
+            About::Beside(_) | About::Malformed => None,
         }
     }
 }
 
-/// The counts of a whole run: a row for each operation, in port order, one for each kind of question with
-/// a list, and one for malformed lines.
+/// The counts of a whole run: a row for each operation, in port order, one for each kind of question
+/// beside the table, and one for malformed lines.
 pub struct Tally {
     rows: Vec<(About, Row)>,
     extra_lines: usize,
@@ -166,7 +166,7 @@ fn open(path: &str) -> io::Result<Lines<BufReader<File>>> {
 
 impl Tally {
     fn new() -> Self {
-        let about = ops::all().map(About::Op).chain(lists::ALL.map(About::List)).chain([About::Malformed]);
+        let about = ops::all().map(About::Op).chain(beside::ALL.map(About::Beside)).chain([About::Malformed]);
         Tally { rows: about.map(|about| (about, Row::default())).collect(), extra_lines: 0 }
     }
 
@@ -186,25 +186,27 @@ impl Tally {
     }
 
     fn add(&mut self, asked: &[u8], judge: Option<&[u8]>, other: Option<&[u8]>) {
-        let (list, read) = (lists::read(asked), question::read(asked));
-        let about = match (&list, &read) {
-            (Some(list), _) => About::List(list.kind()),
+        let (beside, read) = (beside::read(asked), question::read(asked));
+        let about = match (&beside, &read) {
+            (Some(beside), _) => About::Beside(beside.kind()),
             (_, Some(question)) => About::Op(question.op),
             _ => About::Malformed,
         };
         let row = self.row(about);
         row.asked += 1;
-        let numbers = list.as_ref().map(Asked::numbers).or(read.as_ref().map(|read| read.numbers.clone()));
-        let Some(numbers) = numbers else {
-            return row.add_answers(asked, judge, other, asked.len());
+        let numbers = match (&beside, &read) {
+            (Some(beside), _) => beside.numbers(),
+            (_, Some(question)) => Some(question.numbers.clone()),
+            _ => None,
         };
-        if judge == Some(NO_ANSWER) {
+        if judge == Some(NO_ANSWER) && !matches!(about, About::Malformed) {
             row.lacking += 1;
         } else {
-            row.add_answers(asked, judge, other, weight(&numbers));
+            // Of a text, of whole numbers and of what is no question the shortest is the easiest to read.
+            row.add_answers(asked, judge, other, numbers.map_or(asked.len(), |numbers| weight(&numbers)));
         }
-        if let Some(list) = &list {
-            row.add_list(list);
+        if let Some(beside) = &beside {
+            row.add_beside(beside);
         }
         if let Some(question) = read {
             if refusals::refusal(question.op, &question.numbers) == refusals::ACCEPTED {

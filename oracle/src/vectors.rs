@@ -1,8 +1,8 @@
 //! The stored questions of the program `ask`: for each operation boundary values in every place,
 //! every refusal and every arm several times, random questions, and malformed lines of every kind.
 
+use crate::beside;
 use crate::draw::{self, EDGES, OUTSIDE};
-use crate::lists;
 use crate::malformed;
 use crate::ops::{self, Op, Role};
 use crate::plan::{self, Aim};
@@ -25,7 +25,7 @@ pub fn lines() -> Vec<Vec<u8>> {
         lines.extend(good(&mut rng, op));
         lines.extend(bad(&mut rng, op));
     }
-    for kind in lists::ALL {
+    for kind in beside::ALL {
         lines.extend(kind.stored(&mut Rng::new(SEED, kind.name())));
     }
     lines.extend(long_lines());

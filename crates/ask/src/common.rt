@@ -3,7 +3,6 @@
 // reply.
 use crate::parse;
 use crate::print;
-use crate::reply::Reply;
 use region::common_region;
 ghost use Prim.Native.Nat.{_+_, _≤_};
 ghost use lib.ListN.{length};
@@ -21,12 +20,9 @@ pub(crate) fn reply(s: &[u8], at: usize, out: &mut [u8]) -> usize
     requires { ⌜ at + room ≤ length (now out) ⌝ }
     ensures { λ r. ⌜ r ≤ length (now (out .exit)) ⌝ }
 {
-    if s.len() == 0 {
-        return print::reply(Reply::Unknown, at, out);
-    }
-    let t = &s[1..];
-    let end = parse::name_end(t);
-    listed(decimal(&t[..end]), &t[end..], at, out)
+    let n = parse::room_of(s);
+    let end = n.end;
+    listed(n.count, &s[end..], at, out)
 }
 
 // The same for a room n that is read, where s is what follows it.
@@ -35,18 +31,18 @@ fn listed(n: usize, s: &[u8], at: usize, out: &mut [u8]) -> usize
     ensures { λ r. ⌜ r ≤ length (now (out .exit)) ⌝ }
 {
     if n > MOST {
-        return print::reply(Reply::Unknown, at, out);
+        return print::unknown(at, out);
     }
     if s.len() < 2 {
-        return print::reply(Reply::Unknown, at, out);
+        return print::unknown(at, out);
     }
     if !check::same(&s[0..2], b" |") {
-        return print::reply(Reply::Unknown, at, out);
+        return print::unknown(at, out);
     }
     let mut list = [0.0; MOST];
     let count = parse::numbers(&s[2..], &mut list);
     if count > MOST {
-        return print::reply(Reply::Unknown, at, out);
+        return print::unknown(at, out);
     }
     found(&list[..count], n, at, out)
 }
@@ -69,29 +65,4 @@ fn put(list: &[f64], x: &mut [f64], at: usize, out: &mut [u8]) -> usize
 {
     let p = common_region(list, x);
     print::pieces(p.refusal, p.count, x, at, out)
-}
-
-// Reads a room in decimal without a leading zero; where the bytes are something else, or it is more
-// than the most, it is one more than the most.
-fn decimal(s: &[u8]) -> usize {
-    if s.len() == 0 {
-        return MOST + 1;
-    }
-    if s[0] == b'0' && s.len() > 1 {
-        return MOST + 1;
-    }
-    let mut n = 0;
-    let mut i = 0;
-    while i < s.len() {
-        let d = parse::digit(s[i]);
-        if d > 9 {
-            return MOST + 1;
-        }
-        n = n * 10 + d as usize;
-        if n > MOST {
-            return MOST + 1;
-        }
-        i += 1;
-    }
-    n
 }

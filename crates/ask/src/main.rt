@@ -3,8 +3,9 @@
 // number and the result; a line that is no question is answered `?`.
 //
 // This file has the stream of lines. parse.rt reads a line, a file for each layer (line.rt, circle.rt,
-// rect.rt, common.rt, points.rt) has that layer's questions, and print.rt writes an answer (reply.rt) as
-// text.
+// rect.rt, common.rt, points.rt, boxes.rt) has that layer's questions, and print.rt writes an answer
+// (reply.rt) as text.
+mod boxes;
 mod circle;
 mod common;
 mod line;
@@ -119,18 +120,30 @@ fn take(b: u8, p: Place, text: &mut [u8], out: &mut [u8]) -> Place
     p
 }
 
-// Puts a line's answer after those that wait. `common` is apart, since its answer is a list.
+// Puts a line's answer after those that wait. Apart are `common`, `bbox.read` and `bbox.write`, whose
+// answers are a list, a box and a text.
 fn answer_line(s: &[u8], at: usize, out: &mut [u8]) -> usize
     requires { ⌜ room ≤ length (now out) ⌝ }
     requires { ⌜ at ≤ length (now out) ⌝ }
     ensures { λ r. ⌜ r ≤ length (now (out .exit)) ⌝ }
 {
     let from = make_room(at, out);
-    let end = parse::name_end(s);
-    if check::same(&s[..end], b"common") {
-        return common::reply(&s[end..], from, out);
+    if s.len() > LONGEST {
+        return print::unknown(from, out);
     }
-    print::reply(answer(s), from, out)
+    let end = parse::name_end(s);
+    let name = &s[..end];
+    let rest = &s[end..];
+    if check::same(name, b"common") {
+        return common::reply(rest, from, out);
+    }
+    if check::same(name, b"bbox.read") {
+        return boxes::read(rest, from, out);
+    }
+    if check::same(name, b"bbox.write") {
+        return boxes::write(rest, from, out);
+    }
+    print::reply(answer(name, rest), from, out)
 }
 
 // Writes the answers that wait where another one may not fit behind them.
@@ -146,23 +159,21 @@ fn make_room(at: usize, out: &mut [u8]) -> usize
     at
 }
 
-// The answer to a line. Apart are `rect.vertex`, whose last operand is written in two digits, and
-// `growth` and `scan`, whose last operand is a list.
-fn answer(s: &[u8]) -> Reply {
-    if s.len() > LONGEST {
-        return Reply::Unknown;
+// The answer to any other question, of which s is what follows the name. Apart are those whose operands
+// are not only numbers: `rect.vertex`, `growth` and `scan`, and `bbox.rect`.
+fn answer(name: &[u8], s: &[u8]) -> Reply {
+    if check::same(name, b"bbox.rect") {
+        return boxes::to_rect(s);
     }
-    let end = parse::name_end(s);
-    let name = &s[..end];
     if check::same(name, b"rect.vertex") {
-        return rect::vertex(&s[end..]);
+        return rect::vertex(s);
     }
     let scans = check::same(name, b"scan");
     if scans | check::same(name, b"growth") {
-        return points::reply(scans, &s[end..]);
+        return points::reply(scans, s);
     }
     let mut x = [0.0; parse::MOST];
-    let count = parse::numbers(&s[end..], &mut x);
+    let count = parse::numbers(s, &mut x);
     if asks(name, count, b"remainder", 1) {
         return reply::number(consts::remainder(x[0]));
     }

@@ -1,4 +1,4 @@
--- Document 01's refusal numbers: why something is refused, and the number of each. Definitions only.
+-- Document 01's refusal numbers, and those that document 02 adds: why something is refused, and the number of each. Definitions only.
 use mathlib.Core.Bool.{cond}
 use Prim.Native.Nat.{ℕ}
 use lib.Dec.{eqb}
@@ -20,6 +20,10 @@ pub data Reason : Type 0 where
   noRoom : Reason
   -- the stream has a wrong mark or a short record
   badRecord : Reason
+  -- a text is no bbox array
+  badText : Reason
+  -- a box has a number out of range or its south above its north, or is none that reading gives
+  badBox : Reason
 
 abbrev pub number : Reason → ℕ
 number accepted = 0
@@ -30,6 +34,8 @@ number badMargin = 4
 number badList = 5
 number noRoom = 6
 number badRecord = 7
+number badText = 8
+number badBox = 9
 
 -- of two refusals the one that is given: the second counts where the first is 0
 unfoldable pub firstRefusal : ℕ → ℕ → ℕ

@@ -1,5 +1,5 @@
-// Document 01's refusal numbers by name (specs/Refusal.antt has what each means), and the two answers
-// that every layer gives: a yes or no, and a number, each with its refusal number beside it.
+// The refusal numbers of documents 01 and 02 by name (specs/Refusal.antt has what each means), and the
+// two answers that every layer gives: a yes or no, and a number, each with its refusal number beside it.
 ghost use mathlib.Core.Path.{_≡_};
 ghost use Rattle.consts.specs.Answer.{yesNo, numberAnswer, noUnder, zeroUnder};
 ghost use Rattle.consts.specs.Refusal.{firstRefusal};
@@ -19,6 +19,10 @@ pub const BAD_LIST: u8 = 5;
 pub const NO_ROOM: u8 = 6;
 
 pub const BAD_RECORD: u8 = 7;
+
+pub const BAD_TEXT: u8 = 8;
+
+pub const BAD_BOX: u8 = 9;
 
 // A test's answer. A refused test says no.
 pub struct YesNo {

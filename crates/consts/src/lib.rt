@@ -1,15 +1,17 @@
 // The constants and the remainder of `src/consts.rs`, and beside them what every layer of the port
-// reads its operands by and answers with: document 01's refusal numbers, "in reach", and the reading
+// reads its operands by and answers with: the refusal numbers, "in reach", and the reading
 // of negative zero as zero.
 mod answer;
 mod consts;
 mod reading;
 
 pub use answer::ACCEPTED;
+pub use answer::BAD_BOX;
 pub use answer::BAD_LIST;
 pub use answer::BAD_MARGIN;
 pub use answer::BAD_POINT;
 pub use answer::BAD_RECORD;
+pub use answer::BAD_TEXT;
 pub use answer::NO_ROOM;
 pub use answer::NOT_VALID;
 pub use answer::Number;

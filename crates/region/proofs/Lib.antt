@@ -16,3 +16,4 @@ pub mod Examples
 pub mod Permutations
 pub mod AnyOrder
 pub mod Many
+pub mod Listings

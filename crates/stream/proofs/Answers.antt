@@ -5,24 +5,18 @@ use mathlib.Core.Bool.{Bool, true, false, cond}
 use mathlib.Core.List.{List, [], _∷_, _++_}
 use Prim.Native.Nat.{ℕ, zero, suc, _+_, _*_, _%_, _≤_}
 use native.Mathlib.Omega.{arith}
-use borrow.Author.Tests.{le-leb, eq-eqb, ne-eqb, eqb-true, leb-true}
+use borrow.Author.Tests.{le-leb, eq-eqb, ne-eqb, eqb-true}
 use lib.ListN.{length, take, drop, getD}
-use lib.Seq.{take-at}
 use lib.Dec.{T, eqb}
-use lib.Ieee.{Float, nan, binary64, fits, lt, ofBits}
-use Rattle.order.proofs.Ranks.{and-r, and-of}
+use lib.Ieee.{Float, nan, binary64, fits}
+use Rattle.order.proofs.Ranks.{and-of}
 use Rattle.consts.specs.Refusal.{firstRefusal, given}
-use Rattle.r1.specs.Line as line
 use Rattle.s2.specs.declared.rect.Rect.{Rect}
-use Rattle.s2.specs.Places.{Valid}
 use Rattle.s2.specs.Reading.{readOne}
 use Rattle.region.specs.declared.region.Pieces.{Pieces}
-use Rattle.region.specs.CommonRegion.{All}
-use Rattle.region.specs.Region.{bandFrom, lngs, across, region}
-use Rattle.region.specs.Clipping.{steps, common}
-use Rattle.region.specs.Answers.{rectsOf, numbers, asReadAll, piecesOf, wholeList, firstRefused, refusalOf, answer, left, Promised}
+use Rattle.region.specs.Answers.{rectsOf, numbers, piecesOf, wholeList, firstRefused, left, Promised}
 use Rattle.region.proofs.Accepted.{all-valid}
-use Rattle.region.proofs.Laws.{at-most, accepts}
+use Rattle.region.proofs.Listings.{length-numbers, IsListed, listing as region-listing}
 use Rattle.text.specs.Answers as text
 use Rattle.text.specs.Text.{refusedText}
 use Rattle.stream.specs.declared.record.Record.{Record}
@@ -88,51 +82,9 @@ taken s l e =
     let f : Few 512 l = subst (Sound 512) e (sound 512 s) in
     record { is-whole = and-of (eq-eqb (length l % 4) 0 (f .fours)) (le-leb (length l) 2048 (f .few)); none-refused = f .none }
 
--- ---- its common region has at most 512 pieces
-length-rects : (l : List Float) → 4 * length (rectsOf l) ≤ length l
-unfolding rectsOf
-length-rects [] = omega arith
-length-rects (a ∷ []) = omega arith
-length-rects (a ∷ (b ∷ [])) = omega arith
-length-rects (a ∷ (b ∷ (c ∷ []))) = omega arith
-length-rects (a ∷ (b ∷ (c ∷ (d ∷ l)))) = omega (arith, length-rects l)
-
-one-full : length (region (asReadAll [])) ≡ 1
-unfolding region asReadAll bandFrom across lngs common steps line.empty lt ofBits
-one-full = refl
-
-pieces-few : (l : List Float) → All Valid (rectsOf l) → length l ≤ 2048 → length (piecesOf l) ≤ 512
-unfolding piecesOf
-pieces-few l v h = go (rectsOf l) v (length-rects l)
-  where
-    go : (rs : List Rect) → All Valid rs → 4 * length rs ≤ length l → length (region (asReadAll rs)) ≤ 512
-    go [] v k = omega (arith, one-full)
-    go (r ∷ rs) v k = omega (arith, at-most (r ∷ rs) v (omega arith), h)
-
-length-numbers : (rs : List Rect) → length (numbers rs) ≡ 4 * length rs
-unfolding numbers
-length-numbers [] = refl
-length-numbers (r ∷ rs) = omega (arith, length-numbers rs)
-
 -- ---- what `common_region` leaves for it
-pub record IsListed (l : List Float) (n : ℕ) (o : List Float) : Type 0 where
-  pub few : n ≤ 512
-  pub count : n ≡ length (piecesOf l)
-  pub is : take (4 * n) o ≡ numbers (piecesOf l)
-
 pub listing : (l out : List Float) (r : Pieces) (o : List Float) → ((i : ℕ) → T (fits binary64 (getD l i nan))) → Taken l → length out ≡ 2048 → Promised l out r o → IsListed l (r .count) o
-unfolding answer left wholeList
-listing l out r o d t e p =
-    let v = all-valid l d (t .none-refused) in
-    let k : length (piecesOf l) ≤ 512 = pieces-few l v (leb-true (length l) 2048 (and-r (eqb (length l % 4) 0) _ (t .is-whole))) in
-    let z : refusalOf l (length out) ≡ 0 = accepts l (length out) (t .is-whole) v (omega (arith, e, k)) in
-    let c : r .count ≡ length (piecesOf l) = ap (λ (x : Pieces). x .count) (p .answers) ∙ simp z in
-    let w : o ≡ numbers (piecesOf l) ++ drop (4 * length (piecesOf l)) out = p .leaves ∙ simp z in
-    record {
-      few = omega (arith, c, k);
-      count = c;
-      is = ap (λ (n : ℕ). take (4 * n) o) c ∙ ap (take (4 * length (piecesOf l))) w ∙ take-at (numbers (piecesOf l)) (drop (4 * length (piecesOf l)) out) (4 * length (piecesOf l)) (length-numbers (piecesOf l));
-    }
+listing l out r o d t e p = region-listing l out r o (t .is-whole) (all-valid l d (t .none-refused)) e p
 
 -- ---- and how it is written
 module _ (l : List Float) (n : ℕ) (o : List Float) (i : IsListed l n o) where

@@ -21,9 +21,10 @@ use Rattle.s2.specs.Reading.{readOne}
 use Rattle.s2.proofs.Readings.{one-in}
 use Rattle.region.specs.CommonRegion.{All, CommonRegion}
 use Rattle.region.specs.Region.{region}
-use Rattle.region.specs.Answers.{rectsOf, numbers, asReadAll, piecesOf}
+use Rattle.region.specs.Answers.{numbers, asReadAll, piecesOf}
 use Rattle.region.proofs.Listed.{listed-is}
 use Rattle.text.specs.Text.{piecesText, refusedText}
+use Rattle.region.proofs.Listings.{rects-numbers}
 use Rattle.stream.specs.declared.record.Record.{Record}
 use Rattle.stream.specs.declared.record.Record.the-variants.{Rectangle, Refused}
 use Rattle.stream.specs.Records.{isMark, joined, wordAt, doubleAt, whole, rectOf, judged, recordOf, recordNumber, recordValues}
@@ -132,12 +133,6 @@ stream-of rs v h =
   where
     all-of : (rs : List Rect) → length rs ≤ 512 → 512 ≡ length rs + (512 - length rs)
     all-of rs h = omega arith
-
--- so its text is that of the pieces of their common region
-rects-numbers : (rs : List Rect) → rectsOf (numbers rs) ≡ rs
-unfolding rectsOf numbers
-rects-numbers [] = refl
-rects-numbers (r ∷ l) = ap (λ (k : List Rect). r ∷ k) (rects-numbers l)
 
 pub record Answers (rs : List Rect) (t : List ℕ) : Type 0 where
   pub listed : List Rect

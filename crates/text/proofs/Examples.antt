@@ -5,7 +5,7 @@ use mathlib.Core.List.{List, [], _∷_, _++_}
 use Prim.Native.Nat.{ℕ}
 use lib.Ieee.{Float, binary64, ofBits, toBits, isNan}
 use Rattle.bits.specs.Pattern.{toPattern}
-use Rattle.text.specs.Text.{hexDigit, hex, numberText, wordText, lineText, linesText, decimalText, headText, PIECES, REFUSED, piecesText, refusedText}
+use Rattle.text.specs.Text.{hexDigit, hex, numberText, wordText, lineText, linesText, decimalText, headText, PIECES, REFUSED, piecesText, refusedText, AT, refusedAtText}
 
 abbrev double : ℕ → Float
 double b = ofBits binary64 b
@@ -43,3 +43,8 @@ refused-seven = refl
 pub no-pieces : piecesText [] ≡ PIECES ++ (48 ∷ (10 ∷ []))
 unfolding piecesText headText decimalText linesText hexDigit
 no-pieces = refl
+
+-- `refused 8 at 12` and a newline
+pub refused-at-twelve : refusedAtText 8 12 ≡ REFUSED ++ (56 ∷ (AT ++ (49 ∷ (50 ∷ (10 ∷ [])))))
+unfolding refusedAtText headText decimalText hexDigit
+refused-at-twelve = refl

@@ -1,32 +1,32 @@
--- What the two answers promise: a refused writing alters no byte; an accepted one has the text in the bytes that it counts, and every byte after them as it
+-- What the answers promise: a refused writing alters no byte; an accepted one has the text in the bytes that it counts, and every byte after them as it
 -- was; and how much room is always enough. By the two tests, whether a list is taken and whether its text fits. Assumes nothing.
 use mathlib.Core.Path.{_≡_, refl, sym}
 use mathlib.Core.Bool.{Bool, true, false}
 use mathlib.Core.List.{List}
 use Prim.Native.Nat.{ℕ, _/_, _%_, _≤_}
 use native.Mathlib.Omega.{arith}
-use lib.Dec.{leb}
+use lib.Dec.{leb, ltb}
 use lib.ListN.{length, drop}
 use lib.Seq.{take-append-seam, drop-append-seam}
 use lib.Ieee.{Float}
 use Rattle.consts.specs.Refusal.{number, accepted}
-use Rattle.text.specs.Text.{piecesText, refusedText}
-use Rattle.text.specs.Answers.{wrote, left, wholeList, wrotePieces, leftPieces, wroteRefusal, leftRefusal, Stands}
+use Rattle.text.specs.Text.{piecesText, refusedText, refusedAtText}
+use Rattle.text.specs.Answers.{wrote, left, wholeList, wrotePieces, leftPieces, wroteRefusal, leftRefusal, wroteRefusalAt, leftRefusalAt, Stands}
 use Rattle.text.proofs.Lengths.{few-digits, length-pieces, length-refused}
 use Rattle.text.proofs.Answered.{wrote-fits, whole-is}
 
 -- ---- any text
-any-unaltered : (t out : List ℕ) → (wrote t (length out) .refusal ≡ 0 → ⊥) → left t out ≡ out
+pub text-unaltered : (t out : List ℕ) → (wrote t (length out) .refusal ≡ 0 → ⊥) → left t out ≡ out
 unfolding wrote left
-any-unaltered t out = by-test (leb (length t) (length out)) refl
+text-unaltered t out = by-test (leb (length t) (length out)) refl
   where
     by-test : (b : Bool) → leb (length t) (length out) ≡ b → (wrote t (length out) .refusal ≡ 0 → ⊥) → left t out ≡ out
     by-test true e h = absurd (h (simp e))
     by-test false e h = simp e
 
-any-stands : (t out : List ℕ) → wrote t (length out) .refusal ≡ 0 → Stands t (wrote t (length out)) out (left t out)
+pub text-stands : (t out : List ℕ) → wrote t (length out) .refusal ≡ 0 → Stands t (wrote t (length out)) out (left t out)
 unfolding wrote left
-any-stands t out = by-test (leb (length t) (length out)) refl
+text-stands t out = by-test (leb (length t) (length out)) refl
   where
     by-test : (b : Bool) → leb (length t) (length out) ≡ b → wrote t (length out) .refusal ≡ 0 → Stands t (wrote t (length out)) out (left t out)
     by-test true e h = simp e (record { counted = refl; text = take-append-seam t (drop (length t) out); rest = drop-append-seam t (drop (length t) out) })
@@ -40,7 +40,7 @@ unfolding wrotePieces leftPieces
 unaltered l out = by-test (wholeList l) refl
   where
     by-test : (b : Bool) → wholeList l ≡ b → (wrotePieces l (length out) .refusal ≡ 0 → ⊥) → leftPieces l out ≡ out
-    by-test true e h = simp e (any-unaltered (piecesText l) out (simp e at h))
+    by-test true e h = simp e (text-unaltered (piecesText l) out (simp e at h))
     by-test false e h = simp e
 
 pub stands : (l : List Float) (out : List ℕ) → wrotePieces l (length out) .refusal ≡ 0 → Stands (piecesText l) (wrotePieces l (length out)) out (leftPieces l out)
@@ -48,7 +48,7 @@ unfolding wrotePieces leftPieces
 stands l out = by-test (wholeList l) refl
   where
     by-test : (b : Bool) → wholeList l ≡ b → wrotePieces l (length out) .refusal ≡ 0 → Stands (piecesText l) (wrotePieces l (length out)) out (leftPieces l out)
-    by-test true e h = simp e (any-stands (piecesText l) out (simp e at h))
+    by-test true e h = simp e (text-stands (piecesText l) out (simp e at h))
     by-test false e h =
         let k : _≡_ {A = ℕ} 5 0 = simp e at h in
         absurd (omega arith)
@@ -56,11 +56,32 @@ stands l out = by-test (wholeList l) refl
 -- ---- a refusal
 pub refusal-unaltered : (n : ℕ) (out : List ℕ) → (wroteRefusal n (length out) .refusal ≡ 0 → ⊥) → leftRefusal n out ≡ out
 unfolding wroteRefusal leftRefusal
-refusal-unaltered n out h = any-unaltered (refusedText n) out h
+refusal-unaltered n out h = text-unaltered (refusedText n) out h
 
 pub refusal-stands : (n : ℕ) (out : List ℕ) → wroteRefusal n (length out) .refusal ≡ 0 → Stands (refusedText n) (wroteRefusal n (length out)) out (leftRefusal n out)
 unfolding wroteRefusal leftRefusal
-refusal-stands n out h = any-stands (refusedText n) out h
+refusal-stands n out h = text-stands (refusedText n) out h
+
+-- ---- a refusal and its line
+pub refusal-at-unaltered : (n line : ℕ) (out : List ℕ) → (wroteRefusalAt n line (length out) .refusal ≡ 0 → ⊥) → leftRefusalAt n line out ≡ out
+unfolding wroteRefusalAt leftRefusalAt
+refusal-at-unaltered n line out = by-test (ltb line 1000) refl
+  where
+    by-test : (b : Bool) → ltb line 1000 ≡ b → (wroteRefusalAt n line (length out) .refusal ≡ 0 → ⊥) → leftRefusalAt n line out ≡ out
+    by-test true e h = simp e (text-unaltered (refusedAtText n line) out (simp e at h))
+    by-test false e h = simp e
+
+pub refusal-at-stands : (n line : ℕ) (out : List ℕ) → wroteRefusalAt n line (length out) .refusal ≡ 0
+    → Stands (refusedAtText n line) (wroteRefusalAt n line (length out)) out (leftRefusalAt n line out)
+unfolding wroteRefusalAt leftRefusalAt
+refusal-at-stands n line out = by-test (ltb line 1000) refl
+  where
+    by-test : (b : Bool) → ltb line 1000 ≡ b → wroteRefusalAt n line (length out) .refusal ≡ 0
+        → Stands (refusedAtText n line) (wroteRefusalAt n line (length out)) out (leftRefusalAt n line out)
+    by-test true e h = simp e (text-stands (refusedAtText n line) out (simp e at h))
+    by-test false e h =
+        let k : _≡_ {A = ℕ} 5 0 = simp e at h in
+        absurd (omega arith)
 
 -- ---- room
 -- no list that is taken needs more than 8 + 3 + 68 * 512 bytes

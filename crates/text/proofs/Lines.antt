@@ -7,7 +7,7 @@ use native.Mathlib.Omega.{arith}
 use lib.ListN.{length, drop, getD, set, drop-of-length-le}
 use lib.Seq.{drop-cons}
 use lib.Ieee.{Float, nan}
-use Rattle.text.specs.Text.{numberText, wordText, lineText, linesText, decimalText, headText, PIECES, piecesText}
+use Rattle.text.specs.Text.{numberText, wordText, lineText, linesText, decimalText, headText, PIECES, piecesText, AT, REFUSED, refusedAtText}
 use Rattle.text.specs.Put.{put}
 use Rattle.text.proofs.Puts.{put-append, put-then}
 use Rattle.text.proofs.Lengths.{length-number, length-word, length-line, length-head}
@@ -65,14 +65,11 @@ pub lines-all : (at i : ℕ) (l : List Float) (o : List ℕ) → length l ≤ i 
 unfolding linesText put
 lines-all at i l o h = ap (λ (r : List Float). put at (linesText r) o) (drop-of-length-le l h)
 
--- ---- the first line
-pub put-head : (name : List ℕ) (n : ℕ) (o : List ℕ)
-    → put 0 (headText name n) o ≡ set (put (length name) (decimalText n) (put 0 name o)) (length name + length (decimalText n)) 10
+-- ---- a line that ends with a number
+pub put-head : (at : ℕ) (name : List ℕ) (n : ℕ) (o : List ℕ)
+    → put at (headText name n) o ≡ set (put (at + length name) (decimalText n) (put at name o)) (at + length name + length (decimalText n)) 10
 unfolding headText put
-put-head name n o =
-    let e : 0 + length name ≡ length name = omega arith in
-    put-append 0 name (decimalText n ++ (10 ∷ [])) o ∙ ap (λ (k : ℕ). put k (decimalText n ++ (10 ∷ [])) (put 0 name o)) e
-    ∙ put-append (length name) (decimalText n) (10 ∷ []) (put 0 name o)
+put-head at name n o = put-append at name (decimalText n ++ (10 ∷ [])) o ∙ put-append (at + length name) (decimalText n) (10 ∷ []) (put at name o)
 
 -- the lines begin where the first line ends
 pub put-pieces : (l : List Float) (n : ℕ) (o : List ℕ) → n ≡ length (decimalText (length l / 4))
@@ -82,3 +79,11 @@ put-pieces l n o e =
     let t : List ℕ = headText PIECES (length l / 4) in
     let f : 0 + length t ≡ 8 + n = omega (arith, length-head PIECES (length l / 4)) in
     sym (put-append 0 t (linesText l) o ∙ ap (λ (k : ℕ). put k (linesText l) (put 0 t o)) f)
+
+-- ---- a refusal and its line: the line's number begins where the refusal's ends
+pub put-refused-at : (n line w : ℕ) (o : List ℕ) → w ≡ length (decimalText n)
+    → put (8 + w) (headText AT line) (put 8 (decimalText n) (put 0 REFUSED o)) ≡ put 0 (refusedAtText n line) o
+unfolding refusedAtText
+put-refused-at n line w o e =
+    ap (λ (k : ℕ). put (8 + k) (headText AT line) (put 8 (decimalText n) (put 0 REFUSED o))) e
+    ∙ sym (put-append 0 REFUSED (decimalText n ++ headText AT line) o ∙ put-append 8 (decimalText n) (headText AT line) (put 0 REFUSED o))

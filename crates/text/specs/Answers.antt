@@ -1,15 +1,15 @@
--- What `write_pieces` and `write_refusal` answer, and every byte that they leave in the output: a text that fits stands at its start, and the bytes after
--- it stay; a refusal leaves all as it was. Definitions only.
+-- What the writers of a text, of pieces and of a refusal answer, and every byte that they leave in the output: a text that fits stands at its start, and
+-- the bytes after it stay; a refusal leaves all as it was. Definitions only.
 use mathlib.Core.Path.{_≡_}
 use mathlib.Core.Bool.{Bool, _&&_, cond}
 use mathlib.Core.List.{List, _++_}
 use Prim.Native.Nat.{ℕ, _%_}
-use lib.Dec.{leb, eqb}
+use lib.Dec.{leb, ltb, eqb}
 use lib.ListN.{length, take, drop}
 use lib.Ieee.{Float}
 use Rattle.consts.specs.Refusal.{number, accepted, badList, noRoom}
 use Rattle.text.specs.declared.text.Written.{Written}
-use Rattle.text.specs.Text.{piecesText, refusedText}
+use Rattle.text.specs.Text.{piecesText, refusedText, refusedAtText}
 
 -- ---- any text
 abbrev pub refusedWith : ℕ → Written
@@ -37,6 +37,13 @@ wroteRefusal n room = wrote (refusedText n) room
 
 unfoldable pub leftRefusal : ℕ → List ℕ → List ℕ
 leftRefusal n out = left (refusedText n) out
+
+-- ---- a refusal and its line, a number under 1,000
+unfoldable pub wroteRefusalAt : ℕ → ℕ → ℕ → Written
+wroteRefusalAt n line room = cond (ltb line 1000) (wrote (refusedAtText n line) room) (refusedWith (number badList))
+
+unfoldable pub leftRefusalAt : ℕ → ℕ → List ℕ → List ℕ
+leftRefusalAt n line out = cond (ltb line 1000) (left (refusedAtText n line) out) out
 
 -- ---- what the laws say of an accepted writing w, which found the output as out and left it as o: the bytes that it counts are the text t, and every byte
 -- after them is as it was

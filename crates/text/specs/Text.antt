@@ -1,4 +1,4 @@
--- The text of a list of pieces and of a refusal, as bytes, and what a text of digits is worth. Definitions only; the laws are in
+-- The texts of a list of pieces and of a refusal, as bytes, and what a text of digits is worth. Definitions only; the laws are in
 -- proofs/Digits.antt, proofs/Lengths.antt and proofs/Determined.antt.
 use mathlib.Core.Bool.{cond}
 use mathlib.Core.List.{List, [], _∷_, _++_}
@@ -62,6 +62,14 @@ piecesText l = headText PIECES (length l / 4) ++ linesText l
 
 unfoldable pub refusedText : ℕ → List ℕ
 refusedText n = headText REFUSED n
+
+-- ---- a refusal and the line that it stands on
+-- ` at `
+abbrev pub AT : List ℕ
+AT = 32 ∷ (97 ∷ (116 ∷ (32 ∷ [])))
+
+unfoldable pub refusedAtText : ℕ → ℕ → List ℕ
+refusedAtText n line = REFUSED ++ (decimalText n ++ headText AT line)
 
 -- ---- what digits are worth
 unfoldable pub digitValue : ℕ → ℕ

@@ -1,6 +1,7 @@
 // Writes what document 01 gives the program `common` to write: `pieces N` and a line a piece, four bit
-// patterns in 16 upper-case hexadecimal digits with single spaces; or only `refused N`. Every line
-// ends with a newline. Each private writer puts one text at a place, and its contract says which.
+// patterns in 16 upper-case hexadecimal digits with single spaces; or only `refused N`. A program that
+// reads lines says `refused N at LINE`. Every line ends with a newline. Each private writer puts one text
+// at a place, and its contract says which.
 use bits::pattern;
 use consts::ACCEPTED;
 use consts::BAD_LIST;
@@ -9,9 +10,9 @@ ghost use mathlib.Core.Path.{_≡_};
 ghost use Prim.Native.Nat.{_+_, _*_, _<_, _≤_, _/_, _%_, _^_};
 ghost use lib.ListN.{length, getD};
 ghost use lib.Ieee.{nan};
-ghost use Rattle.text.specs.Text.{hexDigit, numberText, wordText, lineText, linesText, decimalText, headText, piecesText};
+ghost use Rattle.text.specs.Text.{hexDigit, numberText, wordText, lineText, linesText, decimalText, headText, piecesText, refusedAtText};
 ghost use Rattle.text.specs.Put.{put};
-ghost use Rattle.text.specs.Answers.{wrote, left, wrotePieces, leftPieces, wroteRefusal, leftRefusal};
+ghost use Rattle.text.specs.Answers.{wrote, left, wrotePieces, leftPieces, wroteRefusal, leftRefusal, wroteRefusalAt, leftRefusalAt};
 
 // What was written: how many bytes stand at the start of the output; none under a refusal.
 pub struct Written {
@@ -125,15 +126,15 @@ fn put_decimal(n: u64, at: usize, out: &mut [u8])
     }
 }
 
-// Puts the first line: a name, a number under 1,000 and the newline.
-fn put_head(name: &[u8], n: u64, out: &mut [u8])
-    requires { ⌜ (n < 1000) × (length (now name) + length (decimalText n) < length (now out)) ⌝ }
-    ensures { λ _. ⌜ now (out .exit) ≡ put 0 (headText (now (name .entry)) n) (now (out .entry)) ⌝ }
+// Puts a line that ends with a number: a name, a number under 1,000 and the newline.
+fn put_head(name: &[u8], n: u64, at: usize, out: &mut [u8])
+    requires { ⌜ (n < 1000) × (at + (length (now name) + length (decimalText n)) < length (now out)) ⌝ }
+    ensures { λ _. ⌜ now (out .exit) ≡ put at (headText (now (name .entry)) n) (now (out .entry)) ⌝ }
 {
-    let at = name.len();
-    put_text(name, 0, out);
-    put_decimal(n, at, out);
-    out[at + width(n)] = b'\n';
+    let from = at + name.len();
+    put_text(name, at, out);
+    put_decimal(n, from, out);
+    out[from + width(n)] = b'\n';
 }
 
 // Writes a list of whole pieces; that there is room is known before the first byte is put.
@@ -152,7 +153,7 @@ fn write_whole(list: &[f64], out: &mut [u8]) -> Written
             count: 0,
         };
     }
-    put_head(b"pieces ", pieces, out);
+    put_head(b"pieces ", pieces, 0, out);
     put_lines(list, head, out);
     Written {
         refusal: ACCEPTED,
@@ -188,9 +189,66 @@ pub fn write_refusal(n: u8, out: &mut [u8]) -> Written
             count: 0,
         };
     }
-    put_head(b"refused ", n as u64, out);
+    put_head(b"refused ", n as u64, 0, out);
     Written {
         refusal: ACCEPTED,
         count,
+    }
+}
+
+// Any text to the start of `out`. Where there is no room, nothing is written.
+pub fn write_text(s: &[u8], out: &mut [u8]) -> Written
+    ensures { λ r. ⌜ r ≡ wrote (now (s .entry)) (length (now (out .entry))) ⌝ }
+    ensures { λ _. ⌜ now (out .exit) ≡ left (now (s .entry)) (now (out .entry)) ⌝ }
+{
+    let count = s.len();
+    if out.len() < count {
+        return Written {
+            refusal: NO_ROOM,
+            count: 0,
+        };
+    }
+    put_text(s, 0, out);
+    Written {
+        refusal: ACCEPTED,
+        count,
+    }
+}
+
+// The refusal number n and the line that it stands on, where all three fit.
+fn write_at(n: u8, line: u64, out: &mut [u8]) -> Written
+    requires { ⌜ line < 1000 ⌝ }
+    ensures { λ r. ⌜ r ≡ wrote (refusedAtText n line) (length (now (out .entry))) ⌝ }
+    ensures { λ _. ⌜ now (out .exit) ≡ left (refusedAtText n line) (now (out .entry)) ⌝ }
+{
+    let at = 8 + width(n as u64);
+    let count = at + 5 + width(line);
+    if out.len() < count {
+        return Written {
+            refusal: NO_ROOM,
+            count: 0,
+        };
+    }
+    put_text(b"refused ", 0, out);
+    put_decimal(n as u64, 8, out);
+    put_head(b" at ", line, at, out);
+    Written {
+        refusal: ACCEPTED,
+        count,
+    }
+}
+
+// The refusal number n and the line that it stands on, to the start of `out`: a line number of more than
+// three digits is refused. Where there is no room, nothing is written.
+pub fn write_refusal_at(n: u8, line: u64, out: &mut [u8]) -> Written
+    ensures { λ r. ⌜ r ≡ wroteRefusalAt n line (length (now (out .entry))) ⌝ }
+    ensures { λ _. ⌜ now (out .exit) ≡ leftRefusalAt n line (now (out .entry)) ⌝ }
+{
+    if line < 1000 {
+        return write_at(n, line, out);
+    }
+    Written {
+        refusal: BAD_LIST,
+        count: 0,
     }
 }

@@ -4,8 +4,8 @@
 use std::f64::consts::{FRAC_PI_2, PI};
 
 use super::{needed, Asked, AIMS, MOST_NUMBERS, MOST_RECTS, REFUSALS};
+use crate::beside::{self, Kind};
 use crate::draw::list::bad;
-use crate::lists::{self, Kind};
 use crate::malformed;
 use crate::plan::{self, Aim};
 use crate::refusals::{NOT_VALID, OUT_OF_REACH};
@@ -47,16 +47,16 @@ pub fn lines(rng: &mut Rng) -> Vec<Vec<u8>> {
     asked.extend(each_room());
     asked.extend(at_each_position(rng));
     asked.extend(poles());
-    let mut asked: Vec<lists::Asked> = asked.into_iter().map(lists::Asked::Common).collect();
+    let mut asked: Vec<beside::Asked> = asked.into_iter().map(beside::Asked::Common).collect();
     for number in REFUSALS {
-        asked.extend((0..4).map(|_| plan::aimed_list(rng, Kind::Common, Aim::Refusal(*number))));
+        asked.extend((0..4).map(|_| plan::aimed_beside(rng, Kind::Common, Aim::Refusal(*number))));
     }
     for arm in AIMS {
-        asked.extend((0..6).map(|_| plan::aimed_list(rng, Kind::Common, Aim::Arm(*arm))));
+        asked.extend((0..6).map(|_| plan::aimed_beside(rng, Kind::Common, Aim::Arm(*arm))));
     }
     asked.extend((0..60).map(|_| Kind::Common.short(rng)));
-    asked.extend(longest().into_iter().map(lists::Asked::Common));
-    let mut lines: Vec<Vec<u8>> = asked.iter().map(|asked| plan::written_list(rng, asked)).collect();
+    asked.extend(longest().into_iter().map(beside::Asked::Common));
+    let mut lines: Vec<Vec<u8>> = asked.iter().map(|asked| plan::written_beside(rng, asked)).collect();
     lines.extend(no_questions(rng));
     lines
 }
@@ -162,7 +162,7 @@ fn no_questions(rng: &mut Rng) -> Vec<Vec<u8>> {
     lines.push([b"common 0 |".to_vec(), b" 0000000000000000".repeat(MOST_NUMBERS + 1)].concat());
     for (name, spoil) in malformed::KINDS {
         if !name.starts_with("a byte") {
-            lines.push(malformed::list_of_kind(rng, Kind::Common, *spoil));
+            lines.push(malformed::beside_of_kind(rng, Kind::Common, *spoil));
         }
     }
     lines.retain(|line| malformed::is_none(line));

@@ -4,8 +4,8 @@
 use std::f64::consts::{FRAC_PI_2, PI};
 
 use super::{circle, neighbour, outside, rect};
+use crate::beside::SHORT;
 use crate::common::{self, Asked, MOST_NUMBERS, MOST_RECTS};
-use crate::lists::SHORT;
 use crate::ops::Role;
 use crate::refusals::{fault, NOT_VALID, OUT_OF_REACH};
 use crate::rng::Rng;

@@ -5,8 +5,8 @@
 use std::f64::consts::{FRAC_PI_2, PI};
 
 use super::{list, outside, rect};
+use crate::beside::SHORT;
 use crate::growth::{Asked, Rect, Way, MOST_POINTS};
-use crate::lists::SHORT;
 use crate::ops::Role;
 use crate::refusals::{fault, NOT_VALID, OUT_OF_REACH};
 use crate::rng::Rng;

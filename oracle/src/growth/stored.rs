@@ -5,8 +5,8 @@
 use std::f64::consts::{FRAC_PI_2, PI};
 
 use super::{Asked, Rect, Way, EMPTY, MOST_POINTS, REFUSALS};
+use crate::beside::{self, Kind};
 use crate::draw;
-use crate::lists::{self, Kind};
 use crate::malformed;
 use crate::plan::{self, Aim};
 use crate::refusals::REACH;
@@ -85,16 +85,16 @@ const BAD_POINTS: &[Point] = &[
 pub fn lines(rng: &mut Rng, way: Way) -> Vec<Vec<u8>> {
     let kind = Kind::Points(way);
     let asked = [no_points(way), one_point(way), bad_at_each_position(way), bad_lengths(way), orders(way)];
-    let mut asked: Vec<lists::Asked> = asked.into_iter().flatten().map(lists::Asked::Points).collect();
+    let mut asked: Vec<beside::Asked> = asked.into_iter().flatten().map(beside::Asked::Points).collect();
     for number in REFUSALS {
-        asked.extend((0..4).map(|_| plan::aimed_list(rng, kind, Aim::Refusal(*number))));
+        asked.extend((0..4).map(|_| plan::aimed_beside(rng, kind, Aim::Refusal(*number))));
     }
     for arm in kind.aims() {
-        asked.extend((0..3).map(|_| plan::aimed_list(rng, kind, Aim::Arm(arm))));
+        asked.extend((0..3).map(|_| plan::aimed_beside(rng, kind, Aim::Arm(arm))));
     }
     asked.extend((0..40).map(|_| kind.short(rng)));
-    asked.extend(longest(way).map(lists::Asked::Points));
-    let mut lines: Vec<Vec<u8>> = asked.iter().map(|asked| plan::written_list(rng, asked)).collect();
+    asked.extend(longest(way).map(beside::Asked::Points));
+    let mut lines: Vec<Vec<u8>> = asked.iter().map(|asked| plan::written_beside(rng, asked)).collect();
     lines.extend(no_questions(rng, way));
     lines
 }
@@ -213,9 +213,9 @@ fn no_questions(rng: &mut Rng, way: Way) -> Vec<Vec<u8>> {
         format!(" 4 | {four}"),
     ];
     let mut lines: Vec<Vec<u8>> = forms.map(|form| format!("{}{form}", way.name()).into_bytes()).to_vec();
-    for (name, spoil) in [malformed::KINDS, malformed::LIST_KINDS].concat() {
+    for (name, spoil) in malformed::kinds_of(Kind::Points(way)) {
         if !name.starts_with("a byte") && name != "a list too long" {
-            lines.push(malformed::list_of_kind(rng, Kind::Points(way), spoil));
+            lines.push(malformed::beside_of_kind(rng, Kind::Points(way), spoil));
         }
     }
     lines.retain(|line| malformed::is_none(line));

@@ -2,9 +2,9 @@
 //! 0 to 8 records, one in 50 is of 500 to 513, one in 100 of 514 or more.
 
 use super::{marked, record, MARK, RECORD};
+use crate::beside::SHORT;
 use crate::common::MOST_RECTS;
 use crate::draw::{list, OUTSIDE};
-use crate::lists::SHORT;
 use crate::refusals::{NOT_VALID, REACH};
 use crate::rng::Rng;
 

@@ -5,8 +5,8 @@ use lib.ListN.{length-take}
 use Rattle.ask.proofs.common.listed.Statement.{statement}
 use Rattle.ask.proofs.common.listed.Tie as tie
 
-reply-requires : tie.Need-reply-requires
-reply-requires c κs = search needs
+unknown-requires : tie.Need-unknown-requires
+unknown-requires c κs = search needs
 
 same-length : tie.Need-same-length
 same-length c = search needs
@@ -14,8 +14,8 @@ same-length c = search needs
 returns : tie.Need-returns
 returns c = search needs
 
-reply-requires-2 : tie.Need-reply-requires-2
-reply-requires-2 c κs = search needs
+unknown-requires-2 : tie.Need-unknown-requires-2
+unknown-requires-2 c κs = search needs
 
 same-length-2 : tie.Need-same-length-2
 same-length-2 c = search needs
@@ -38,8 +38,8 @@ slice-aggregate-same c = search needs
 same-requires : tie.Need-same-requires
 same-requires c κs = search needs
 
-reply-requires-3 : tie.Need-reply-requires-3
-reply-requires-3 c κs = search needs
+unknown-requires-3 : tie.Need-unknown-requires-3
+unknown-requires-3 c κs = search needs
 
 same-length-3 : tie.Need-same-length-3
 same-length-3 c = search needs
@@ -62,8 +62,8 @@ slice-aggregate-numbers c = search needs
 numbers-requires : tie.Need-numbers-requires
 numbers-requires c κs = search needs
 
-reply-requires-4 : tie.Need-reply-requires-4
-reply-requires-4 c κs = search needs
+unknown-requires-4 : tie.Need-unknown-requires-4
+unknown-requires-4 c κs = search needs
 
 same-length-4 : tie.Need-same-length-4
 same-length-4 c = search needs
@@ -90,10 +90,10 @@ pub listed-spec : {M : Type 1} → statement M
 listed-spec =
     tie.close
     (tie.spec
-    reply-requires
+    unknown-requires
     same-length
     returns
-    reply-requires-2
+    unknown-requires-2
     same-length-2
     returns-2
     sub-same
@@ -101,7 +101,7 @@ listed-spec =
     part-same-end
     slice-aggregate-same
     same-requires
-    reply-requires-3
+    unknown-requires-3
     same-length-3
     returns-3
     sub-numbers
@@ -109,7 +109,7 @@ listed-spec =
     part-numbers-end
     slice-aggregate-numbers
     numbers-requires
-    reply-requires-4
+    unknown-requires-4
     same-length-4
     returns-4
     array-share-prefix-list

@@ -4,7 +4,8 @@ use Prim.Native.Nat.{_*_}
 use native.Mathlib.Omega.{arith}
 use borrow.Author.Needs.{needs}
 use lib.Seq.{length-take-le}
-use Rattle.stream.proofs.Answers.{IsListed, listing, wrote-listed, left-listed}
+use Rattle.region.proofs.Listings.{IsListed}
+use Rattle.stream.proofs.Answers.{listing, wrote-listed, left-listed}
 use Rattle.stream.proofs.answer.listed.Statement.{statement}
 use Rattle.stream.proofs.answer.listed.Tie as tie
 

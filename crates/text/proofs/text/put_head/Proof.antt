@@ -11,6 +11,9 @@ use Rattle.text.proofs.Lines.{put-head}
 use Rattle.text.proofs.text.put_head.Statement.{statement}
 use Rattle.text.proofs.text.put_head.Tie as tie
 
+add-from : tie.Need-add-from
+add-from c = search needs
+
 put-text-requires : tie.Need-put-text-requires
 put-text-requires c κs = search needs
 
@@ -33,14 +36,16 @@ returns : tie.Need-returns
 returns c =
     let a = c .before .before .before .before .before .before .before .before .before .before .before .args in
     let l : List ℕ = a .name .now in
-    ap (λ (o : List ℕ). set o (length l + c .width .result) 10) (c .before .before .before .put-decimal .ensures ∙ ap (λ (o : List ℕ). put (length l) (decimalText (a .n)) o) (c .before .before .before .before .before .before .before .put-text .ensures))
-    ∙ ap (λ (k : ℕ). set (put (length l) (decimalText (a .n)) (put 0 l (a .out .now))) (length l + k) 10) (c .width .ensures .0)
-    ∙ sym (put-head l (a .n) (a .out .now))
+    let from : ℕ = a .at + length l in
+    ap (λ (o : List ℕ). set o (from + c .width .result) 10) (c .before .before .before .put-decimal .ensures ∙ ap (λ (o : List ℕ). put from (decimalText (a .n)) o) (c .before .before .before .before .before .before .before .put-text .ensures))
+    ∙ ap (λ (k : ℕ). set (put from (decimalText (a .n)) (put (a .at) l (a .out .now))) (from + k) 10) (c .width .ensures .0)
+    ∙ sym (put-head (a .at) l (a .n) (a .out .now))
 
 pub put-head-spec : {M : Type 1} → statement M
 put-head-spec =
     tie.close
     (tie.spec
+    add-from
     put-text-requires
     put-decimal-requires
     width-requires

@@ -1,0 +1,5 @@
+pub mod Bounds
+pub mod Grammar
+pub mod Reading
+pub mod Text
+pub mod Growth

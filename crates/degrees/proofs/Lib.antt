@@ -1,0 +1,5 @@
+pub mod Relative
+pub mod Angles
+pub mod Heights
+pub mod Rises
+pub mod Boxes

@@ -1,0 +1,124 @@
+-- `lines::gather::gather`: the list holds the boxes of the lines read so far, and the rest of the text is still to be read (`Held`). The measure is what is
+-- left of the text. Assumes nothing.
+use mathlib.Core.Path.{_≡_, sym, ap, _∙_, subst}
+use mathlib.Core.List.{List}
+use Prim.Native.Nat.{_+_, _*_, _-_, _≤_}
+use native.Mathlib.Omega.{arith}
+use borrow.Author.Needs.{needs}
+use lib.ListN.{length}
+use lib.IntN.{ℤ}
+use Rattle.lines.specs.Answers.{GLOBE}
+use Rattle.lines.specs.Promises.{all-read, one-refused, one-too-many}
+use Rattle.lines.proofs.Held.{Held, starts, good, bad, over, ends, all-held, length-placed}
+use Rattle.lines.proofs.gather.gather.Statement.{statement}
+use Rattle.lines.proofs.gather.gather.Tie as tie
+
+abbrev Inv-loop : tie.InvT-loop
+Inv-loop s list₀ at₀ k₀ list at k = Held s list at k × (k ≤ 512) × (length list ≡ 2052)
+
+abbrev μ-loop : tie.MeasureT-loop
+μ-loop s list₀ at₀ k₀ list at k = length s + 1 - at
+
+place-requires : tie.Need-place-requires Inv-loop μ-loop
+place-requires c κs = search needs
+
+loop-holds : tie.Need-loop-holds Inv-loop μ-loop
+loop-holds c =
+    let a = c .before .before .before .before .args in
+    let e = c .before .place .ensures in (
+      subst (λ (l : List ℤ). Held (a .s .now) l 0 0) (sym e) (starts (a .s .now) (a .list .now) (omega (arith, c .before .before .before .before .pre))),
+      omega arith,
+      ap length e ∙ length-placed 0 GLOBE (a .list .now) ∙ c .before .before .before .before .pre,
+    )
+
+same-length : tie.Need-same-length Inv-loop μ-loop
+same-length c = search needs
+
+returns : tie.Need-returns Inv-loop μ-loop
+returns c = one-too-many _ (over _ (c .before .before .loop .list) (c .before .before .loop .at) (c .before .before .loop .k) (c .before .before .loop .inv .0) (omega arith) (c .if1 .taken))
+
+line-end-requires : tie.Need-line-end-requires Inv-loop μ-loop
+line-end-requires c κs = search needs
+
+sub-read : tie.Need-sub-read Inv-loop μ-loop
+sub-read c = search needs
+
+part-read-start : tie.Need-part-read-start Inv-loop μ-loop
+part-read-start c = search needs
+
+part-read-end : tie.Need-part-read-end Inv-loop μ-loop
+part-read-end c = search needs
+
+read-requires : tie.Need-read-requires Inv-loop μ-loop
+read-requires c κs = search needs
+
+add-k : tie.Need-add-k Inv-loop μ-loop
+add-k c = search needs
+
+same-length-2 : tie.Need-same-length-2 Inv-loop μ-loop
+same-length-2 c = search needs
+
+returns-2 : tie.Need-returns-2 Inv-loop μ-loop
+returns-2 c =
+    let v = c .before .before .before .before .before .before .before .loop in
+    let s = c .before .before .before .before .before .before .before .before .before .before .before .before .args .s .now in
+    let r = c .before .before .read .result in
+    one-refused (r .refusal) (v .k + 1) (v .list)
+    (bad s (v .list) (v .at) (v .k) (v .inv .0) (c .before .before .before .before .line-end .result) r (omega arith) (omega (arith, c .before .before .before .before .before .if1 .left)) (c .before .before .before .before .line-end .ensures .0) (c .before .before .read .ensures) (c .if2 .taken))
+    (omega arith)
+
+mul-place : tie.Need-mul-place Inv-loop μ-loop
+mul-place c = search needs
+
+place-requires-2 : tie.Need-place-requires-2 Inv-loop μ-loop
+place-requires-2 c κs = search needs
+
+add-at : tie.Need-add-at Inv-loop μ-loop
+add-at c = search needs
+
+loop-less : tie.Need-loop-less Inv-loop μ-loop
+loop-less c = search needs
+
+loop-again : tie.Need-loop-again Inv-loop μ-loop
+loop-again c =
+    let v = c .before .before .before .before .before .before .before .before .before .before .loop in
+    let s = c .before .before .before .before .before .before .before .before .before .before .before .before .before .before .before .args .s .now in
+    let r = c .before .before .before .before .before .read .result in
+    let e = c .before .place2 .ensures in (
+      subst (λ (l : List ℤ). Held s l (c .before .before .before .before .before .before .before .line-end .result + 1) (v .k + 1)) (sym e)
+          (good s (v .list) (v .at) (v .k) (v .inv .0) (c .before .before .before .before .before .before .before .line-end .result) r (omega arith) (omega (arith, c .before .before .before .before .before .before .before .before .if1 .left)) (v .inv .2) (c .before .before .before .before .before .before .before .line-end .ensures .0) (c .before .before .before .before .before .read .ensures) (c .before .before .before .if2 .left)),
+      omega arith,
+      ap length e ∙ length-placed (4 * (v .k + 1)) (r .value) (v .list) ∙ v .inv .2,
+    )
+
+same-length-3 : tie.Need-same-length-3 Inv-loop μ-loop
+same-length-3 c = search needs
+
+returns-3 : tie.Need-returns-3 Inv-loop μ-loop
+returns-3 c = all-read (c .before .loop .inv .0 .boxes) (c .before .loop .k) (c .before .loop .list) (ends _ (c .before .loop .list) (c .before .loop .at) (c .before .loop .k) (c .before .loop .inv .0) (omega arith)) (c .before .loop .inv .0 .many) (all-held _ (c .before .loop .list) (c .before .loop .at) (c .before .loop .k) (c .before .loop .inv .0) (omega arith))
+
+pub gather-spec : {M : Type 1} → statement M
+gather-spec =
+    tie.close
+    (tie.spec
+    Inv-loop
+    μ-loop
+    place-requires
+    loop-holds
+    same-length
+    returns
+    line-end-requires
+    sub-read
+    part-read-start
+    part-read-end
+    read-requires
+    add-k
+    same-length-2
+    returns-2
+    mul-place
+    place-requires-2
+    add-at
+    loop-less
+    loop-again
+    same-length-3
+    returns-3)
