@@ -2,14 +2,13 @@
 -- as it stands. All from the order of the four numbers, which their radians keep (Rises), and from the exact ends (Angles). Assumes nothing.
 use mathlib.Core.Path.{_≡_, refl, sym, ap, _∙_, subst}
 use mathlib.Core.Bool.{Bool, true, false, not, cond, _&&_, _||_, and-false, false≢true}
-use Prim.Native.Nat.{ℕ, suc, _≤_}
+use Prim.Native.Nat.{_≤_}
 use native.Mathlib.Nat.{le-trans}
-use native.Mathlib.Omega.{arith}
 use lib.Dec.{lit≤}
 use lib.IntN.{ℤ, pos, negsuc, negℤ, natAbs}
 use lib.Signed.{leZ, ltZ}
 use lib.Ieee.{Float, binary64, fits, isNan, lt, le, eq}
-use borrow.Author.Tests.{leb-true, leb-false, lt-ltb}
+use borrow.Author.Tests.{leb-false, lt-ltb}
 use Rattle.order.specs.Key.{Num}
 use Rattle.order.proofs.Facts.{tests, antisym, eq-refl, lt-not-eq}
 use Rattle.order.proofs.Keys.{lt-key, le-key, eq-key}
@@ -20,6 +19,7 @@ use Rattle.consts.specs.Reading.{plain}
 use Rattle.consts.specs.Refusal.{number, accepted, badBox}
 use Rattle.bbox.specs.declared.bounds.Bounds.{Bounds}
 use Rattle.bbox.specs.Bounds.{HALF, QUARTER, within, inLimits, isWestmost, isEastmost, wholeCircle, settled, givable}
+use Rattle.bbox.proofs.Boxes.{within-size}
 use Rattle.r1.specs.Line as line
 use Rattle.s1.specs.Circle as circle
 use Rattle.s1.specs.Places.{Valid as LngValid}
@@ -36,22 +36,17 @@ use Rattle.degrees.proofs.Angles as angles
 use Rattle.degrees.proofs.Rises.{radians-num, rises, keeps, one-to-one}
 
 -- ---- a number within a limit
-within-size : (k : ℕ) (z : ℤ) → within (suc k) z ≡ true → natAbs z ≤ suc k
-unfolding within
-within-size k (pos n) h = leb-true n (suc k) (and-r (leZ (negsuc k) (pos n)) (leZ (pos n) (pos (suc k))) h)
-within-size k (negsuc n) h = omega (arith, leb-true n k (and-l (leZ (negsuc k) (negsuc n)) true h))
-
-not-above : (a b : ℤ) → leZ a b ≡ false → ltZ b a ≡ true
+pub not-above : (a b : ℤ) → leZ a b ≡ false → ltZ b a ≡ true
 not-above (pos n) (pos m) h = lt-ltb m n (leb-false n m h)
 not-above (pos n) (negsuc m) h = refl
 not-above (negsuc n) (pos m) h = absurd (false≢true (sym h))
 not-above (negsuc n) (negsuc m) h = lt-ltb n m (leb-false m n h)
 
 pub longitude-size : (z : ℤ) → within HALF z ≡ true → natAbs z ≤ HALF
-longitude-size z h = within-size 1799999999 z h
+longitude-size z h = within-size HALF z h
 
 pub latitude-size : (z : ℤ) → within QUARTER z ≡ true → natAbs z ≤ HALF
-latitude-size z h = le-trans (within-size 899999999 z h) (lit≤ tt)
+latitude-size z h = le-trans (within-size QUARTER z h) (lit≤ tt)
 
 -- ---- tests on doubles
 module _ (x y : Float) (nx : Num x ≡ true) (ny : Num y ≡ true) where

@@ -9,7 +9,7 @@ use native.Mathlib.Numerals.{add-one}
 use borrow.Author.Tests.{eq-eqb, ne-eqb}
 use lib.Dec.{eqb}
 use lib.ListN.{length, take, drop, getD, drop-of-length-le}
-use lib.Seq.{drop-cons}
+use lib.Seq.{drop-cons, drop-drop}
 use Rattle.bbox.specs.declared.bounds.Bounds.{Bounds}
 use Rattle.lines.specs.Lines.{lineOf, afterLine, Lines, Boxes, Fault, TooMany, after, readFrom}
 
@@ -53,19 +53,6 @@ after-is (b ∷ s) = go (eqb b 10) (after-is s)
     go : (t : Bool) → drop (suc (length (lineOf s))) s ≡ afterLine s → drop (length (cond t [] (b ∷ lineOf s))) s ≡ cond t s (afterLine s)
     go true h = refl
     go false h = h
-
-pub drop-drop : (n k : ℕ) (l : List ℕ) → drop n (drop k l) ≡ drop (k + n) l
-drop-drop n zero l =
-    let e : n ≡ 0 + n = omega arith in
-    ap (λ (j : ℕ). drop j l) e
-drop-drop n (suc k) [] = none n ∙ sym (none (suc k + n))
-  where
-    none : (j : ℕ) → drop {A = ℕ} j [] ≡ []
-    none zero = refl
-    none (suc j) = refl
-drop-drop n (suc k) (b ∷ l) =
-    let e : suc k + n ≡ suc (k + n) = omega arith in
-    drop-drop n k l ∙ ap (λ (j : ℕ). drop j (b ∷ l)) (sym e)
 
 -- from the place of one line to that of the next
 pub next-place : (s : List ℕ) (at end : ℕ) → end ≡ at + length (lineOf (drop at s)) → drop (end + 1) s ≡ afterLine (drop at s)

@@ -7,7 +7,7 @@ use native.Mathlib.Omega.{arith}
 use native.Mathlib.Nat.{le-of-suc-le-suc, not-suc-le-zero}
 use native.Mathlib.Numerals.{add-one}
 use lib.ListN.{length, take, drop, set, getD, drop-of-length-le, take-append-drop}
-use lib.Seq.{drop-cons, take-suc, take-suc-set, drop-set-lt}
+use lib.Seq.{take-all, drop-cons, take-suc, take-suc-set, drop-set-lt}
 use lib.IntN.{ℤ, pos}
 use lib.Ieee.{Float, eq, nan}
 use Rattle.degrees.specs.Degrees.{radians}
@@ -55,14 +55,8 @@ pub all-filled : (l : List ℤ) (x₀ x : List Float) (i : ℕ) → i ≡ length
 all-filled l x₀ x i e f =
     sym (take-append-drop i x) ∙ ap (λ (t : List Float). t ++ drop i x) (f .front ∙ whole) ∙ ap (λ (t : List Float). inRadians l ++ t) (f .rest ∙ ap (λ (k : ℕ). drop k x₀) e)
   where
-    take-all : (y : List Float) (n : ℕ) → length y ≤ n → take n y ≡ y
-    take-all [] zero h = refl
-    take-all [] (suc n) h = refl
-    take-all (a ∷ y) zero h = absurd (not-suc-le-zero h)
-    take-all (a ∷ y) (suc n) h = ap (λ (t : List Float). a ∷ t) (take-all y n (le-of-suc-le-suc h))
-
     whole : take i (inRadians l) ≡ inRadians l
-    whole = take-all (inRadians l) i (omega (arith, length-radians l))
+    whole = take-all i (inRadians l) (omega (arith, length-radians l))
 
 -- ---- looking: what is found from the place i on
 module _ (l : List ℤ) (v : Float) (i : ℕ) where

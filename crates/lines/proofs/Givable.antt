@@ -4,10 +4,9 @@ use mathlib.Core.Path.{_≡_, refl, sym, _∙_, subst}
 use mathlib.Core.Bool.{Bool, true, false, not, _&&_, _||_, false≢true}
 use Prim.Native.Nat.{ℕ}
 use lib.Dec.{lit≤}
-use lib.IntN.{ℤ, pos, negsuc, negℤ}
-use lib.Signed.{leZ, ltZ}
+use lib.IntN.{ℤ, pos, negℤ}
+use lib.Signed.{leZ}
 use lib.Ieee.{Float, binary64, lt, le, eq}
-use borrow.Author.Tests.{leb-false, lt-ltb}
 use Rattle.order.specs.Key.{Num}
 use Rattle.order.proofs.Facts.{tests, le-trans, not-lt, antisym}
 use Rattle.order.proofs.Keys.{lt-key, le-key}
@@ -23,16 +22,11 @@ use Rattle.bbox.specs.Bounds.{HALF, QUARTER, within, inLimits, isWestmost, isEa
 use Rattle.degrees.specs.Degrees.{radians, rectOf}
 use Rattle.degrees.proofs.Angles as angles
 use Rattle.degrees.proofs.Rises.{radians-num, rises, keeps, one-to-one}
+use Rattle.degrees.proofs.Boxes.{not-above}
 use Rattle.lines.specs.Answers.{Given}
 use Rattle.lines.proofs.Back.{Small}
 
 -- ---- the order of whole numbers, from that of their radians
-above : (a b : ℤ) → leZ a b ≡ false → ltZ b a ≡ true
-above (pos n) (pos m) h = lt-ltb m n (leb-false n m h)
-above (pos n) (negsuc m) h = refl
-above (negsuc n) (pos m) h = absurd (false≢true (sym h))
-above (negsuc n) (negsuc m) h = lt-ltb n m (leb-false m n h)
-
 not-both : (x y : Float) → Num x ≡ true → Num y ≡ true → le x y ≡ true → lt y x ≡ true → ⊥
 not-both x y nx ny h k = omega (tests, simp (le-key binary64) at h, simp (lt-key binary64) at k)
 
@@ -41,7 +35,7 @@ ordered v w p q h = go (leZ v w) refl
   where
     go : (t : Bool) → leZ v w ≡ t → leZ v w ≡ true
     go true e = e
-    go false e = absurd (not-both (radians v) (radians w) (radians-num v p) (radians-num w q) h (rises w v q p (above v w e)))
+    go false e = absurd (not-both (radians v) (radians w) (radians-num v p) (radians-num w q) h (rises w v q p (not-above v w e)))
 
 limited : (k : ℕ) → Small (pos k) → Small (negℤ (pos k)) → (z : ℤ) → Small z
     → le (radians (negℤ (pos k))) (radians z) ≡ true → le (radians z) (radians (pos k)) ≡ true → within k z ≡ true

@@ -9,7 +9,7 @@ use borrow.Author.Tests.{le-leb}
 use borrow.Rule.Slice.PartMut.{midOf, putMid}
 use lib.Dec.{leb}
 use lib.ListN.{length, take, drop, set, getD, length-append, length-drop, take-append-drop, drop-of-length-le}
-use lib.Seq.{drop-cons, drop-append-le, set-append-seam, length-take-le, take-append-seam}
+use lib.Seq.{drop-cons, drop-drop, drop-append-le, set-append-seam, length-take-le, take-append-seam}
 use Rattle.text.specs.declared.text.Written.{Written}
 use Rattle.text.specs.Answers.{wrote, left}
 use Rattle.bbox.specs.declared.bounds.Bounds.{Bounds}
@@ -22,7 +22,6 @@ use Rattle.s2.specs.declared.rect.Rect.{Rect}
 use Rattle.region.specs.Answers.{rectsOf, rectAt}
 use Rattle.region.proofs.Turns.{four}
 use Rattle.lines.specs.Answers.{boxOf, boxesOf, boxText, boxLine, boxLines}
-use Rattle.lines.proofs.Cuts.{drop-drop}
 
 -- ---- what the writer writes of a box
 pub box-short : (b : Bounds) → length (boxText b) ≤ 51
