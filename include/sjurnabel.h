@@ -14,7 +14,10 @@
  * only: the 180th meridian is written PI. A rectangle is valid if lat.lo is from -PI/2 to PI/2, lat.hi at most
  * PI/2, lng valid, and both lat (lat.lo > lat.hi) and lng empty or neither. The standard empty rectangle is
  * {{1, 0}, {PI, -PI}}, the full one {{-PI/2, PI/2}, {-PI, PI}}. A point is valid if its latitude is of size at
- * most PI/2 and its longitude of size at most PI; longitude -PI is the same place as PI.
+ * most PI/2 and its longitude of size at most PI; longitude -PI is the same place as PI. An interval of the line
+ * (sjurnabel_line_..) is any two numbers in reach, as latitudes are; it is empty if lo > hi, and its standard
+ * empty one is {1, 0}. The inside of an interval or a rectangle is it without its ends or edges: the full circle
+ * has no ends, and a pole is an edge.
  *
  * ANSWERS come by value, the refusal number first: 0, or why there is no answer (enum sjurnabel_refusal). Every
  * argument is allowed, NaN and infinity too. Nothing aborts, nothing sets errno, nothing is allocated. What
@@ -26,16 +29,19 @@
  * n sjurnabel_rect is such a list: pass &z[0].lat.lo and 4 * n. A pointer must not be null and must be aligned
  * for a double, even where the length is 0: for an empty list pass the address of any double, and 0. That many
  * doubles must be readable there (of out: writable too), and no other thread may change them during the call.
- * What is written (out, box) must not overlap what is read (list, points).
+ * What is written (out, box) must not overlap what is read (list, points). A text to be read is a pointer to bytes
+ * and how many there are; no zero has to end it. The same holds of it, but for the alignment.
  *
  * WHAT IS WRITTEN. Of the caller's memory only the pieces at the start of out, and the box of the scan worker.
- * On a refusal neither is touched: every bit stays. No function keeps a pointer.
+ * On a refusal neither is touched: every bit stays. A text is written into the answer, which comes by value. No
+ * function keeps a pointer.
  *
  * THREADS. There is no state: any function may be called from any number of threads at once, as long as what one
  * call writes is not read or written by another. The largest need of stack is that of
  * sjurnabel_common_region, about 20 kB.
  *
- * The calling convention and the layouts are those of x86-64 Linux.
+ * The calling convention and the layouts are those of x86-64 Linux. A program over the archive is linked with -lm;
+ * the shared object brings it along.
  */
 #ifndef SJURNABEL_H
 #define SJURNABEL_H
@@ -49,15 +55,18 @@ extern "C" {
 #endif
 
 /* Why something is refused. Where several hold, the one given is the first of: 5; then 1 and 2, operands from
- * left to right and lists from their first record, 1 before 2 in each; 3; 4; 6. */
+ * left to right and lists from their first record, 1 before 2 in each; 3; 4; 6. The GeoJSON functions alone give 8
+ * and 9, 8 before 9, and nothing else. (7 is a program's, for a stream of records.) */
 enum sjurnabel_refusal {
     SJURNABEL_ACCEPTED = 0,     /* the answer stands */
     SJURNABEL_OUT_OF_REACH = 1, /* a rectangle or an interval has a number out of reach */
     SJURNABEL_NOT_VALID = 2,    /* its numbers are in reach, but it is not valid */
     SJURNABEL_BAD_POINT = 3,    /* a point is not valid */
-    SJURNABEL_BAD_MARGIN = 4,   /* a margin is out of reach; a remainder's argument is NaN or beyond 4 PI */
+    SJURNABEL_BAD_MARGIN = 4,   /* a margin, size or error is out of reach; a remainder's x is NaN or beyond 4 PI */
     SJURNABEL_BAD_LIST = 5,     /* a list's length is no multiple of its record, or over the limit */
-    SJURNABEL_NO_ROOM = 6       /* out has fewer than four doubles a piece */
+    SJURNABEL_NO_ROOM = 6,      /* out has fewer than four doubles a piece */
+    SJURNABEL_BAD_TEXT = 8,     /* a text is no bbox array */
+    SJURNABEL_BAD_BOX = 9       /* a GeoJSON box is out of range, or none that reading gives */
 };
 
 /* The most records of a list. */
@@ -76,11 +85,19 @@ typedef struct sjurnabel_rect {
     sjurnabel_interval lng;
 } sjurnabel_rect;
 
-/* A point; or margins, one for the latitudes and one for the longitudes. */
+/* A point; or margins, sizes or errors, one for the latitudes and one for the longitudes. */
 typedef struct sjurnabel_latlng {
     double lat;
     double lng;
 } sjurnabel_latlng;
+
+/* A GeoJSON box: whole ten-millionths of a degree, so that 1800000000 is 180 degrees. */
+typedef struct sjurnabel_bounds {
+    int64_t west;
+    int64_t south;
+    int64_t east;
+    int64_t north;
+} sjurnabel_bounds;
 
 /* ---- what comes out; sizes in bytes, and where a member starts ---- */
 
@@ -101,23 +118,52 @@ typedef struct sjurnabel_number {
     double value;
 } sjurnabel_number;
 
-/* 24: refusal 0, value 8. A refused interval is the empty one, {PI, -PI}. */
+/* 24: refusal 0, value 8. A refused interval is the empty one, {PI, -PI} of the circle and {1, 0} of the line, but
+ * for the two _add under 3. */
 typedef struct sjurnabel_interval_answer {
     uint8_t refusal;
     sjurnabel_interval value;
 } sjurnabel_interval_answer;
 
-/* 40: refusal 0, value 8. A refused rectangle is the standard empty one, but for sjurnabel_grow under 3 and 5. */
+/* 40: refusal 0, value 8. A refused rectangle is the standard empty one, but for sjurnabel_grow under 3 and 5 and
+ * sjurnabel_rect_add under 3. */
 typedef struct sjurnabel_rect_answer {
     uint8_t refusal;
     sjurnabel_rect value;
 } sjurnabel_rect_answer;
+
+/* 24: refusal 0, value 8. A refused point or size is two zeros. */
+typedef struct sjurnabel_latlng_answer {
+    uint8_t refusal;
+    sjurnabel_latlng value;
+} sjurnabel_latlng_answer;
+
+/* 16: refusal 0, unbounded 1, value 8. Where unbounded is true the value is infinity. A refused distance is 0. */
+typedef struct sjurnabel_distance {
+    uint8_t refusal;
+    bool unbounded;
+    double value;
+} sjurnabel_distance;
 
 /* 16: refusal 0, count 8. Under a refusal the count is 0. */
 typedef struct sjurnabel_pieces {
     uint8_t refusal;
     size_t count;
 } sjurnabel_pieces;
+
+/* 40: refusal 0, value 8. A refused box is four zeros. */
+typedef struct sjurnabel_bounds_answer {
+    uint8_t refusal;
+    sjurnabel_bounds value;
+} sjurnabel_bounds_answer;
+
+/* 72: refusal 0, length 8, text 16. The bytes after the first length ones are zero, and there is one at least, so
+ * that text is a C string. A refused text has length 0. */
+typedef struct sjurnabel_text {
+    uint8_t refusal;
+    size_t length;
+    char text[52];
+} sjurnabel_text;
 
 /* ---- lists ---- */
 
@@ -145,14 +191,75 @@ sjurnabel_refused sjurnabel_scan_list(sjurnabel_rect *box, const double *points,
 
 /* ---- rectangles ---- */
 
+/* The rectangle of one point; a longitude -PI is stored as PI. Refusal: 3. */
+sjurnabel_rect_answer sjurnabel_rect_from_latlng(sjurnabel_latlng p);
+
+/* The rectangle of that size about the center, as sjurnabel_rect_expanded makes it with half the size for margins.
+ * Refusals: 3 (the center), 4 (the size). */
+sjurnabel_rect_answer sjurnabel_rect_from_center_size(sjurnabel_latlng center, sjurnabel_latlng size);
+
+/* The least rectangle that holds both points: its longitudes go the shorter way. Refusal: 3. */
+sjurnabel_rect_answer sjurnabel_rect_from_point_pair(sjurnabel_latlng p, sjurnabel_latlng q);
+
+/* Whether a is valid: true under 0, and false under a refusal. Refusals: 1, 2. */
+sjurnabel_yes_no sjurnabel_rect_is_valid(sjurnabel_rect a);
+
+/* Whether a holds no place. Refusals: 1, 2. */
+sjurnabel_yes_no sjurnabel_rect_is_empty(sjurnabel_rect a);
+
+/* Whether a is the full rectangle. Refusals: 1, 2. */
+sjurnabel_yes_no sjurnabel_rect_is_full(sjurnabel_rect a);
+
+/* Whether a holds a single point. Refusals: 1, 2. */
+sjurnabel_yes_no sjurnabel_rect_is_point(sjurnabel_rect a);
+
+/* Whether lng.lo > lng.hi: a crosses the 180th meridian, or is empty. Refusals: 1, 2. */
+sjurnabel_yes_no sjurnabel_rect_is_inverted(sjurnabel_rect a);
+
+/* The corner of number i modulo 4: lower left, lower right, upper right, upper left. Refusals: 1, 2. */
+sjurnabel_latlng_answer sjurnabel_rect_vertex(sjurnabel_rect a, uint8_t i);
+
+/* The lower left corner, of number 0. Refusals: 1, 2. */
+sjurnabel_latlng_answer sjurnabel_rect_lo(sjurnabel_rect a);
+
+/* The upper right corner, of number 2. Refusals: 1, 2. */
+sjurnabel_latlng_answer sjurnabel_rect_hi(sjurnabel_rect a);
+
+/* The middle of the latitudes and the middle of the longitudes; of an empty rectangle it means nothing.
+ * Refusals: 1, 2. */
+sjurnabel_latlng_answer sjurnabel_rect_center(sjurnabel_rect a);
+
+/* How far the latitudes go, and the longitudes; both are negative where a is empty. Refusals: 1, 2. */
+sjurnabel_latlng_answer sjurnabel_rect_size(sjurnabel_rect a);
+
 /* Whether a holds every place of b. Refusals: 1, 2. */
 sjurnabel_yes_no sjurnabel_rect_contains(sjurnabel_rect a, sjurnabel_rect b);
+
+/* Whether the inside of a holds every place of b. Refusals: 1, 2. */
+sjurnabel_yes_no sjurnabel_rect_interior_contains(sjurnabel_rect a, sjurnabel_rect b);
 
 /* Whether a holds the point. Refusals: 1, 2, 3. */
 sjurnabel_yes_no sjurnabel_rect_contains_latlng(sjurnabel_rect a, sjurnabel_latlng p);
 
+/* Whether the inside of a holds the point. Refusals: 1, 2, 3. */
+sjurnabel_yes_no sjurnabel_rect_interior_contains_latlng(sjurnabel_rect a, sjurnabel_latlng p);
+
 /* Whether a and b share a place. Refusals: 1, 2. */
 sjurnabel_yes_no sjurnabel_rect_intersects(sjurnabel_rect a, sjurnabel_rect b);
+
+/* Whether the inside of a and b meet: latitudes and longitudes each overlap by more than an end of a.
+ * Refusals: 1, 2. */
+sjurnabel_yes_no sjurnabel_rect_interior_intersects(sjurnabel_rect a, sjurnabel_rect b);
+
+/* Whether a and b hold the same places; two empty ones do. Refusals: 1, 2. */
+sjurnabel_yes_no sjurnabel_rect_eq(sjurnabel_rect a, sjurnabel_rect b);
+
+/* Whether a and b are the same but for noise: sjurnabel_line_approx_eq of the latitudes and
+ * sjurnabel_circle_approx_eq of the longitudes. Refusals: 1, 2. */
+sjurnabel_yes_no sjurnabel_rect_approx_eq(sjurnabel_rect a, sjurnabel_rect b);
+
+/* The same with the errors given. Refusals: 1, 2, 4. */
+sjurnabel_yes_no sjurnabel_rect_approx_eq_by(sjurnabel_rect a, sjurnabel_rect b, sjurnabel_latlng max_error);
 
 /* One rectangle that holds both. Of {0, 0} and {PI, PI} the longitudes go east from the first: the order of a and b
  * may matter. Refusals: 1, 2. */
@@ -166,7 +273,52 @@ sjurnabel_rect_answer sjurnabel_rect_intersection(sjurnabel_rect a, sjurnabel_re
  * longitudes; negative margins shrink it. Refusals: 1, 2, 4. */
 sjurnabel_rect_answer sjurnabel_rect_expanded(sjurnabel_rect a, sjurnabel_latlng margin);
 
-/* ---- the circle of longitudes ---- */
+/* a with all longitudes where it reaches a pole, since each longitude names the pole there; else a itself. An empty
+ * rectangle reaches none. Refusals: 1, 2. */
+sjurnabel_rect_answer sjurnabel_rect_polar_closure(sjurnabel_rect a);
+
+/* a grown by one point, as sjurnabel_grow does.
+ * Refusals: 1 and 2, with the standard empty rectangle; 3, with the rectangle as it was handed in. */
+sjurnabel_rect_answer sjurnabel_rect_add(sjurnabel_rect a, sjurnabel_latlng p);
+
+/* Whether a point is valid: true under 0, and false under the refusal. Refusal: 3. */
+sjurnabel_yes_no sjurnabel_latlng_is_valid(sjurnabel_latlng p);
+
+/* ---- the circle of longitudes: intervals as under INTERVALS AND RECTANGLES, points of size at most PI ---- */
+
+/* The interval from lo east to hi. An end -PI is written PI, but in the full and the empty interval.
+ * Refusals: 1; 2, an end of size over PI. */
+sjurnabel_interval_answer sjurnabel_circle_new(double lo, double hi);
+
+/* The circle interval with the ends of a line interval, as they are. Refusals: 1; 2, it is not valid. */
+sjurnabel_interval_answer sjurnabel_circle_from_line(sjurnabel_interval l);
+
+/* The shorter way between two points; of two opposite ones it goes east from p. Refusal: 3. */
+sjurnabel_interval_answer sjurnabel_circle_from_point_pair(double p, double q);
+
+/* Whether a is valid: true under 0, and false under a refusal. Refusals: 1, 2. */
+sjurnabel_yes_no sjurnabel_circle_is_valid(sjurnabel_interval a);
+
+/* Whether a is the full circle. Refusals: 1, 2. */
+sjurnabel_yes_no sjurnabel_circle_is_full(sjurnabel_interval a);
+
+/* Whether a is empty. Refusals: 1, 2. */
+sjurnabel_yes_no sjurnabel_circle_is_empty(sjurnabel_interval a);
+
+/* Whether lo > hi: a crosses the 180th meridian, or is empty. Refusals: 1, 2. */
+sjurnabel_yes_no sjurnabel_circle_is_inverted(sjurnabel_interval a);
+
+/* The middle of a; of the full and the empty one it means nothing. Refusals: 1, 2. */
+sjurnabel_number sjurnabel_circle_center(sjurnabel_interval a);
+
+/* How long a is; the empty one has -1. Refusals: 1, 2. */
+sjurnabel_number sjurnabel_circle_len(sjurnabel_interval a);
+
+/* The line interval with the ends of a: empty where lo > hi. Refusals: 1, 2; the line's empty one stands beside. */
+sjurnabel_interval_answer sjurnabel_circle_to_line(sjurnabel_interval a);
+
+/* As sjurnabel_circle_contains, but -PI is not taken for PI. Refusals: 1, 2, 3. */
+sjurnabel_yes_no sjurnabel_circle_fast_contains(sjurnabel_interval a, double p);
 
 /* Whether a holds the point p, of size at most PI. Refusals: 1, 2, 3. */
 sjurnabel_yes_no sjurnabel_circle_contains(sjurnabel_interval a, double p);
@@ -174,8 +326,34 @@ sjurnabel_yes_no sjurnabel_circle_contains(sjurnabel_interval a, double p);
 /* Whether a holds every place of b. Refusals: 1, 2. */
 sjurnabel_yes_no sjurnabel_circle_contains_interval(sjurnabel_interval a, sjurnabel_interval b);
 
+/* Whether the inside of a holds the point p. Refusals: 1, 2, 3. */
+sjurnabel_yes_no sjurnabel_circle_interior_contains(sjurnabel_interval a, double p);
+
+/* Whether the inside of a holds every place of b. Refusals: 1, 2. */
+sjurnabel_yes_no sjurnabel_circle_interior_contains_interval(sjurnabel_interval a, sjurnabel_interval b);
+
 /* Whether a and b share a place. Refusals: 1, 2. */
 sjurnabel_yes_no sjurnabel_circle_intersects(sjurnabel_interval a, sjurnabel_interval b);
+
+/* Whether the inside of a shares a place with b. Refusals: 1, 2. */
+sjurnabel_yes_no sjurnabel_circle_interior_intersects(sjurnabel_interval a, sjurnabel_interval b);
+
+/* Whether a and b have the same ends, and so the same places. Refusals: 1, 2. */
+sjurnabel_yes_no sjurnabel_circle_eq(sjurnabel_interval a, sjurnabel_interval b);
+
+/* Whether each end of a lies within 1e-14 of that end of b. The empty one is like any that is shorter than twice
+ * that, the full one like any that leaves out no more than twice that. Ends on either side of the 180th meridian
+ * do not count as near. Refusals: 1, 2. */
+sjurnabel_yes_no sjurnabel_circle_approx_eq(sjurnabel_interval a, sjurnabel_interval b);
+
+/* The same with the error given. Refusals: 1, 2, 4. */
+sjurnabel_yes_no sjurnabel_circle_approx_eq_by(sjurnabel_interval a, sjurnabel_interval b, double max_error);
+
+/* a with its ends exchanged: of a point the same point, of the full circle the empty interval. Refusals: 1, 2. */
+sjurnabel_interval_answer sjurnabel_circle_invert(sjurnabel_interval a);
+
+/* The rest of the circle and the ends of a; of a point the full circle. Refusals: 1, 2. */
+sjurnabel_interval_answer sjurnabel_circle_complement(sjurnabel_interval a);
 
 /* One interval that holds both; the order of a and b may matter. Refusals: 1, 2. */
 sjurnabel_interval_answer sjurnabel_circle_union(sjurnabel_interval a, sjurnabel_interval b);
@@ -183,9 +361,113 @@ sjurnabel_interval_answer sjurnabel_circle_union(sjurnabel_interval a, sjurnabel
 /* One interval that holds what a and b share; it may hold more, as they may meet at both ends. Refusals: 1, 2. */
 sjurnabel_interval_answer sjurnabel_circle_intersection(sjurnabel_interval a, sjurnabel_interval b);
 
+/* a with the margin added on both sides; a negative one shrinks it. The empty interval stays empty, the full one
+ * full. Refusals: 1, 2, 4. */
+sjurnabel_interval_answer sjurnabel_circle_expanded(sjurnabel_interval a, double margin);
+
+/* a grown by the point p, to the nearer side.
+ * Refusals: 1 and 2, with the empty interval; 3, with the interval as it was handed in. */
+sjurnabel_interval_answer sjurnabel_circle_add(sjurnabel_interval a, double p);
+
+/* How far it is from p east to q, from 0 to 2 PI. Refusal: 3. */
+sjurnabel_number sjurnabel_circle_positive_distance(double p, double q);
+
+/* The middle of the rest of the circle, of a point the point opposite; of the full and the empty one it means
+ * nothing. Refusals: 1, 2. */
+sjurnabel_number sjurnabel_circle_complement_center(sjurnabel_interval a);
+
+/* How far a place of a can lie from the nearest one of b: 0 where b holds a, PI where b alone is empty.
+ * Refusals: 1, 2. */
+sjurnabel_number sjurnabel_circle_directed_hausdorff_distance(sjurnabel_interval a, sjurnabel_interval b);
+
 /* x minus the whole multiple of 2 PI nearest to it, of two equally near ones the even one: from -PI to PI, exact,
  * as IEEE 754's remainder by the double 2 PI. For x from -4 PI to 4 PI. Refusal: 4. */
 sjurnabel_number sjurnabel_remainder(double x);
+
+/* ---- the line: intervals of numbers in reach, such as latitudes; 3 is a point out of reach ---- */
+
+/* The interval from lo to hi, which is empty where lo > hi. Refusal: 1. */
+sjurnabel_interval_answer sjurnabel_line_new(double lo, double hi);
+
+/* The interval of one point. Refusal: 3. */
+sjurnabel_interval_answer sjurnabel_line_from_point(double p);
+
+/* The interval between two points, in either order. Refusal: 3. */
+sjurnabel_interval_answer sjurnabel_line_from_point_pair(double p, double q);
+
+/* Whether a is empty. Refusal: 1. */
+sjurnabel_yes_no sjurnabel_line_is_empty(sjurnabel_interval a);
+
+/* The middle of a; of an empty one it means nothing. Refusal: 1. */
+sjurnabel_number sjurnabel_line_center(sjurnabel_interval a);
+
+/* hi minus lo: negative where a is empty. Refusal: 1. */
+sjurnabel_number sjurnabel_line_len(sjurnabel_interval a);
+
+/* Whether a holds the point p. Refusals: 1, 3. */
+sjurnabel_yes_no sjurnabel_line_contains(sjurnabel_interval a, double p);
+
+/* Whether a holds every place of b. Refusal: 1. */
+sjurnabel_yes_no sjurnabel_line_contains_interval(sjurnabel_interval a, sjurnabel_interval b);
+
+/* Whether p lies between the ends of a. Refusals: 1, 3. */
+sjurnabel_yes_no sjurnabel_line_interior_contains(sjurnabel_interval a, double p);
+
+/* Whether b is empty or lies between the ends of a. Refusal: 1. */
+sjurnabel_yes_no sjurnabel_line_interior_contains_interval(sjurnabel_interval a, sjurnabel_interval b);
+
+/* Whether a and b share a place. Refusal: 1. */
+sjurnabel_yes_no sjurnabel_line_intersects(sjurnabel_interval a, sjurnabel_interval b);
+
+/* Whether a and b overlap by more than an end of a, neither being empty. Refusal: 1. */
+sjurnabel_yes_no sjurnabel_line_interior_intersects(sjurnabel_interval a, sjurnabel_interval b);
+
+/* Whether a and b hold the same places; two empty ones do. Refusal: 1. */
+sjurnabel_yes_no sjurnabel_line_eq(sjurnabel_interval a, sjurnabel_interval b);
+
+/* Whether each end of a lies within 1e-14 of that end of b. An empty one is like any that is shorter than twice
+ * that. Refusal: 1. */
+sjurnabel_yes_no sjurnabel_line_approx_eq(sjurnabel_interval a, sjurnabel_interval b);
+
+/* The same with the error given. Refusals: 1, 4. */
+sjurnabel_yes_no sjurnabel_line_approx_eq_by(sjurnabel_interval a, sjurnabel_interval b, double max_error);
+
+/* The least interval that holds both. Refusal: 1. */
+sjurnabel_interval_answer sjurnabel_line_union(sjurnabel_interval a, sjurnabel_interval b);
+
+/* What a and b share, exactly. Refusal: 1. */
+sjurnabel_interval_answer sjurnabel_line_intersection(sjurnabel_interval a, sjurnabel_interval b);
+
+/* a with the margin added on both sides; a negative one shrinks it. An empty interval stays as it is.
+ * Refusals: 1, 4. */
+sjurnabel_interval_answer sjurnabel_line_expanded(sjurnabel_interval a, double margin);
+
+/* a grown by the point p. Refusals: 1, with {1, 0}; 3, with the interval as it was handed in. */
+sjurnabel_interval_answer sjurnabel_line_add(sjurnabel_interval a, double p);
+
+/* The place of a that is nearest to p; of an empty interval lo. Refusals: 1, 3. */
+sjurnabel_number sjurnabel_line_clamp_point(sjurnabel_interval a, double p);
+
+/* How far a place of a can lie from the nearest one of b: 0 where b holds a, unbounded where b alone is empty.
+ * Refusal: 1. */
+sjurnabel_distance sjurnabel_line_directed_hausdorff_distance(sjurnabel_interval a, sjurnabel_interval b);
+
+/* ---- GeoJSON: the bbox array [west, south, east, north] of RFC 7946, in degrees ---- */
+
+/* The box of a bbox array. A number is an optional minus, one to three digits without a needless leading zero and
+ * an optional point with one to seven digits; JSON's spaces may stand between. -180 with 180 is the whole circle,
+ * and every other -180 is read as 180.
+ * Refusals: 8, the text is no such array; 9, a longitude beyond 180 or a latitude beyond 90 degrees, or the south
+ * above the north. */
+sjurnabel_bounds_answer sjurnabel_bbox_read(const char *text, size_t text_length);
+
+/* The bbox array of a box, with the fewest digits, without spaces and never with -0: 9 to 51 bytes. Reading it
+ * gives the same box. Refusal: 9, a box that reading does not give. */
+sjurnabel_text sjurnabel_bbox_write(sjurnabel_bounds b);
+
+/* The box as a rectangle in radians; 180 and 90 degrees are PI and PI/2. Refusal: 9, a box that reading does not
+ * give. */
+sjurnabel_rect_answer sjurnabel_bbox_rect(sjurnabel_bounds b);
 
 #ifdef __cplusplus
 }

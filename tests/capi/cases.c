@@ -17,6 +17,14 @@ static_assert(sizeof(sjurnabel_number) == 16 && offsetof(sjurnabel_number, value
 static_assert(sizeof(sjurnabel_interval_answer) == 24 && offsetof(sjurnabel_interval_answer, value) == 8, "interval_answer");
 static_assert(sizeof(sjurnabel_rect_answer) == 40 && offsetof(sjurnabel_rect_answer, value) == 8, "rect_answer");
 static_assert(sizeof(sjurnabel_pieces) == 16 && offsetof(sjurnabel_pieces, count) == 8, "pieces");
+static_assert(sizeof(sjurnabel_latlng_answer) == 24 && offsetof(sjurnabel_latlng_answer, value) == 8, "latlng_answer");
+static_assert(sizeof(sjurnabel_distance) == 16 && offsetof(sjurnabel_distance, unbounded) == 1 && offsetof(sjurnabel_distance, value) == 8, "distance");
+static_assert(sizeof(sjurnabel_bounds) == 32 && offsetof(sjurnabel_bounds, west) == 0 && offsetof(sjurnabel_bounds, south) == 8, "bounds");
+static_assert(offsetof(sjurnabel_bounds, east) == 16 && offsetof(sjurnabel_bounds, north) == 24, "bounds");
+static_assert(sizeof(sjurnabel_bounds_answer) == 40 && offsetof(sjurnabel_bounds_answer, value) == 8, "bounds_answer");
+static_assert(sizeof(sjurnabel_text) == 72 && offsetof(sjurnabel_text, length) == 8 && offsetof(sjurnabel_text, text) == 16, "text");
+static_assert(offsetof(sjurnabel_latlng_answer, refusal) == 0 && offsetof(sjurnabel_distance, refusal) == 0, "the refusal is first");
+static_assert(offsetof(sjurnabel_bounds_answer, refusal) == 0 && offsetof(sjurnabel_text, refusal) == 0, "the refusal is first");
 static_assert(offsetof(sjurnabel_yes_no, refusal) == 0 && offsetof(sjurnabel_number, refusal) == 0, "the refusal is first");
 static_assert(offsetof(sjurnabel_interval_answer, refusal) == 0 && offsetof(sjurnabel_rect_answer, refusal) == 0, "the refusal is first");
 static_assert(offsetof(sjurnabel_pieces, refusal) == 0, "the refusal is first");
@@ -232,9 +240,83 @@ static void rectangles(void) {
     }
 }
 
+static bool is_point(sjurnabel_latlng_answer a, int refusal, double lat, double lng) { return a.refusal == refusal && same(a.value.lat, lat) && same(a.value.lng, lng); }
+
+static void rectangles_made(void) {
+    CHECK(answers(sjurnabel_rect_from_latlng(at(0.5, -PI)), 0, rect(0.5, 0.5, PI, PI)) && answers(sjurnabel_rect_from_latlng(at(-0.0, -0.0)), 0, rect(0, 0, 0, 0)));
+    CHECK(answers(sjurnabel_rect_from_center_size(at(0.5, 1), at(0.5, 1)), 0, rect(0.25, 0.75, 0.5, 1.5)));
+    CHECK(answers(sjurnabel_rect_from_center_size(at(0, 0), at(4, 8)), 0, FULL) && answers(sjurnabel_rect_from_center_size(at(0, 0), at(-1, 1)), 0, EMPTY));
+    CHECK(answers(sjurnabel_rect_from_point_pair(at(1, 3), at(0, -3)), 0, rect(0, 1, 3, -3)));
+    CHECK(answers(sjurnabel_rect_polar_closure(rect(0, HALF_PI, 0, 1)), 0, rect(0, HALF_PI, -PI, PI)));
+    CHECK(answers(sjurnabel_rect_polar_closure(rect(-0.0, 1, 0, 1)), 0, rect(0, 1, 0, 1)));
+    CHECK(answers(sjurnabel_rect_polar_closure(rect(-HALF_PI, -2, PI, -PI)), 0, rect(-HALF_PI, -2, PI, -PI)));
+    CHECK(answers(sjurnabel_rect_add(rect(0, 1, 0, 1), at(0.5, 2)), 0, rect(0, 1, 0, 2)) && answers(sjurnabel_rect_add(EMPTY, at(0, -PI)), 0, rect(0, 0, PI, PI)));
+    const double margins[] = {NAN, INFINITY, -INFINITY, PAST, -PAST};
+    for (size_t k = 0; k < BAD_POINTS; k++) {
+        const sjurnabel_latlng p = at(bad_points[k][0], bad_points[k][1]);
+        CHECK(answers(sjurnabel_rect_from_latlng(p), SJURNABEL_BAD_POINT, EMPTY));
+        CHECK(answers(sjurnabel_rect_from_center_size(p, at(NAN, NAN)), SJURNABEL_BAD_POINT, EMPTY));
+        CHECK(answers(sjurnabel_rect_from_point_pair(p, at(0, 0)), SJURNABEL_BAD_POINT, EMPTY) && answers(sjurnabel_rect_from_point_pair(at(0, 0), p), SJURNABEL_BAD_POINT, EMPTY));
+        CHECK(answers(sjurnabel_rect_add(rect(-0.0, 1, -0.0, 1), p), SJURNABEL_BAD_POINT, rect(-0.0, 1, -0.0, 1)));
+        CHECK(says(sjurnabel_latlng_is_valid(p), SJURNABEL_BAD_POINT, false));
+    }
+    for (int k = 0; k < 5; k++) {
+        CHECK(answers(sjurnabel_rect_from_center_size(at(0, 0), at(margins[k], 0)), SJURNABEL_BAD_MARGIN, EMPTY));
+        CHECK(answers(sjurnabel_rect_from_center_size(at(0, 0), at(0, margins[k])), SJURNABEL_BAD_MARGIN, EMPTY));
+    }
+    CHECK(says(sjurnabel_latlng_is_valid(at(HALF_PI, -PI)), 0, true) && says(sjurnabel_latlng_is_valid(at(-0.0, PI)), 0, true));
+    for (int refusal = 1; refusal <= 2; refusal++)
+        for (int k = 0; k < 7; k++) {
+            CHECK(answers(sjurnabel_rect_polar_closure(bad(refusal, k)), refusal, EMPTY));
+            CHECK(answers(sjurnabel_rect_add(bad(refusal, k), at(NAN, 0)), refusal, EMPTY));
+        }
+}
+
+static void rectangles_tested(void) {
+    static sjurnabel_yes_no (*const of_one[])(sjurnabel_rect) = {sjurnabel_rect_is_valid, sjurnabel_rect_is_empty, sjurnabel_rect_is_full, sjurnabel_rect_is_point, sjurnabel_rect_is_inverted};
+    static sjurnabel_yes_no (*const of_two[])(sjurnabel_rect, sjurnabel_rect) = {sjurnabel_rect_interior_contains, sjurnabel_rect_interior_intersects, sjurnabel_rect_eq, sjurnabel_rect_approx_eq};
+    static sjurnabel_latlng_answer (*const of_points[])(sjurnabel_rect) = {sjurnabel_rect_lo, sjurnabel_rect_hi, sjurnabel_rect_center, sjurnabel_rect_size};
+    const sjurnabel_rect a = {{0, 1}, {-1, 1}}, b = {{0, 1}, {1, -1}}, in = {{0.25, 0.5}, {-0.5, 0.5}}, c = {{0, 1}, {2, 3}};
+    CHECK(says(sjurnabel_rect_is_valid(a), 0, true) && says(sjurnabel_rect_is_valid(EMPTY), 0, true));
+    CHECK(says(sjurnabel_rect_is_empty(EMPTY), 0, true) && says(sjurnabel_rect_is_empty(a), 0, false));
+    CHECK(says(sjurnabel_rect_is_full(FULL), 0, true) && says(sjurnabel_rect_is_full(rect(-HALF_PI, HALF_PI, NEAR_NEG_PI, PI)), 0, false));
+    CHECK(says(sjurnabel_rect_is_point(rect(1, 1, 2, 2)), 0, true) && says(sjurnabel_rect_is_point(rect(0, 1, 2, 2)), 0, false));
+    CHECK(says(sjurnabel_rect_is_inverted(b), 0, true) && says(sjurnabel_rect_is_inverted(a), 0, false) && says(sjurnabel_rect_is_inverted(EMPTY), 0, true));
+    CHECK(is_point(sjurnabel_rect_vertex(c, 0), 0, 0, 2) && is_point(sjurnabel_rect_vertex(c, 1), 0, 0, 3));
+    CHECK(is_point(sjurnabel_rect_vertex(c, 2), 0, 1, 3) && is_point(sjurnabel_rect_vertex(c, 3), 0, 1, 2));
+    CHECK(is_point(sjurnabel_rect_vertex(c, 255), 0, 1, 2) && is_point(sjurnabel_rect_vertex(c, 4), 0, 0, 2));
+    CHECK(is_point(sjurnabel_rect_lo(c), 0, 0, 2) && is_point(sjurnabel_rect_hi(c), 0, 1, 3) && is_point(sjurnabel_rect_lo(rect(-0.0, 1, -0.0, 1)), 0, 0, 0));
+    CHECK(is_point(sjurnabel_rect_center(c), 0, 0.5, 2.5) && is_point(sjurnabel_rect_center(rect(0, 1, 3, -3)), 0, 0.5, PI));
+    CHECK(is_point(sjurnabel_rect_size(c), 0, 1, 1) && is_point(sjurnabel_rect_size(EMPTY), 0, -1, -1));
+    CHECK(says(sjurnabel_rect_interior_contains(FULL, a), 0, true) && says(sjurnabel_rect_interior_contains(FULL, FULL), 0, false) && says(sjurnabel_rect_interior_contains(a, a), 0, false));
+    CHECK(says(sjurnabel_rect_interior_contains_latlng(a, at(0.5, 0)), 0, true) && says(sjurnabel_rect_interior_contains_latlng(a, at(0, 0)), 0, false) && says(sjurnabel_rect_interior_contains_latlng(FULL, at(0, PI)), 0, true));
+    CHECK(says(sjurnabel_rect_interior_intersects(a, in), 0, true) && says(sjurnabel_rect_interior_intersects(a, b), 0, false));
+    CHECK(says(sjurnabel_rect_eq(a, a), 0, true) && says(sjurnabel_rect_eq(EMPTY, rect(0, -1, PI, -PI)), 0, true) && says(sjurnabel_rect_eq(a, in), 0, false));
+    CHECK(says(sjurnabel_rect_approx_eq(rect(0, 0, 0, 0), rect(5e-15, 5e-15, 0, 5e-15)), 0, true) && says(sjurnabel_rect_approx_eq(rect(0, 0, 0, 0), rect(0, 0, 1, 1)), 0, false));
+    CHECK(says(sjurnabel_rect_approx_eq_by(rect(0, 0, 0, 0), rect(1, 1, 0, 0), at(1, 0)), 0, true) && says(sjurnabel_rect_approx_eq_by(rect(0, 0, 0, 0), rect(1, 1, 0, 0), at(0, 1)), 0, false));
+    for (int refusal = 1; refusal <= 2; refusal++)
+        for (int k = 0; k < 7; k++) {
+            const sjurnabel_rect r = bad(refusal, k), o = bad(3 - refusal, k);
+            for (size_t f = 0; f < sizeof of_one / sizeof *of_one; f++) CHECK(says(of_one[f](r), refusal, false));
+            for (size_t f = 0; f < sizeof of_two / sizeof *of_two; f++) CHECK(says(of_two[f](r, o), refusal, false) && says(of_two[f](a, r), refusal, false));
+            for (size_t f = 0; f < sizeof of_points / sizeof *of_points; f++) CHECK(is_point(of_points[f](r), refusal, 0, 0));
+            CHECK(is_point(sjurnabel_rect_vertex(r, 3), refusal, 0, 0));
+            CHECK(says(sjurnabel_rect_interior_contains_latlng(r, at(NAN, 0)), refusal, false));
+            CHECK(says(sjurnabel_rect_approx_eq_by(r, o, at(NAN, 0)), refusal, false) && says(sjurnabel_rect_approx_eq_by(a, r, at(NAN, 0)), refusal, false));
+        }
+    for (size_t k = 0; k < BAD_POINTS; k++) CHECK(says(sjurnabel_rect_interior_contains_latlng(a, at(bad_points[k][0], bad_points[k][1])), SJURNABEL_BAD_POINT, false));
+    CHECK(says(sjurnabel_rect_approx_eq_by(a, a, at(NAN, 0)), SJURNABEL_BAD_MARGIN, false) && says(sjurnabel_rect_approx_eq_by(a, a, at(0, PAST)), SJURNABEL_BAD_MARGIN, false));
+}
+
 /* ---- the circle ---- */
 static bool gives(sjurnabel_interval_answer a, int refusal, double lo, double hi) { return a.refusal == refusal && is_interval(a.value, lo, hi); }
 static bool is_number(sjurnabel_number a, int refusal, double x) { return a.refusal == refusal && same(a.value, x); }
+
+/* what is wrong with a circle interval: three out of reach, four not valid */
+static sjurnabel_interval bad_circle(int k) {
+    const double wrong[][2] = {{NAN, 0}, {0, PAST}, {0, -INFINITY}, {4, 0}, {0, -4}, {-PI, 0}, {0, -PI}};
+    return span(wrong[k][0], wrong[k][1]);
+}
 
 static void circle(void) {
     const sjurnabel_interval a = {-1, 1}, b = {1, -1}, full = {-PI, PI}, empty = {PI, -PI};
@@ -245,10 +327,9 @@ static void circle(void) {
     CHECK(says(sjurnabel_circle_contains(b, -PI), 0, true) && says(sjurnabel_circle_contains(b, PI), 0, true) && says(sjurnabel_circle_contains(b, -0.0), 0, false));
     CHECK(says(sjurnabel_circle_contains_interval(full, span(NEAR_NEG_PI, PI)), 0, true) && says(sjurnabel_circle_contains_interval(span(NEAR_NEG_PI, PI), full), 0, false));
     CHECK(says(sjurnabel_circle_contains_interval(a, empty), 0, true) && says(sjurnabel_circle_intersects(a, b), 0, true) && says(sjurnabel_circle_intersects(a, span(2, 3)), 0, false));
-    const double wrong[][2] = {{NAN, 0}, {0, PAST}, {0, -INFINITY}, {4, 0}, {0, -4}, {-PI, 0}, {0, -PI}};
     for (int k = 0; k < 7; k++) {
         const int refusal = k < 3 ? SJURNABEL_OUT_OF_REACH : SJURNABEL_NOT_VALID;
-        const sjurnabel_interval r = span(wrong[k][0], wrong[k][1]), o = k < 3 ? span(4, 4) : span(NAN, 0);
+        const sjurnabel_interval r = bad_circle(k), o = bad_circle(k < 3 ? 3 : 0);
         CHECK(says(sjurnabel_circle_contains(r, NAN), refusal, false));
         CHECK(says(sjurnabel_circle_contains_interval(r, o), refusal, false) && says(sjurnabel_circle_contains_interval(a, r), refusal, false));
         CHECK(says(sjurnabel_circle_intersects(r, o), refusal, false) && says(sjurnabel_circle_intersects(a, r), refusal, false));
@@ -264,12 +345,173 @@ static void circle(void) {
     for (int k = 0; k < 5; k++) CHECK(is_number(sjurnabel_remainder(far[k]), SJURNABEL_BAD_MARGIN, 0));
 }
 
+static void circle_made(void) {
+    const sjurnabel_interval a = {-1, 1}, full = {-PI, PI}, empty = {PI, -PI};
+    CHECK(gives(sjurnabel_circle_new(-PI, 1), 0, PI, 1) && gives(sjurnabel_circle_new(1, -PI), 0, 1, PI) && gives(sjurnabel_circle_new(-0.0, 1), 0, 0, 1));
+    CHECK(gives(sjurnabel_circle_new(PI, -PI), 0, PI, -PI) && gives(sjurnabel_circle_new(-PI, PI), 0, -PI, PI));
+    CHECK(gives(sjurnabel_circle_from_line(span(0, 1)), 0, 0, 1) && gives(sjurnabel_circle_from_line(span(-PI, 1)), SJURNABEL_NOT_VALID, PI, -PI));
+    CHECK(gives(sjurnabel_circle_to_line(span(1, -1)), 0, 1, -1) && gives(sjurnabel_circle_to_line(full), 0, -PI, PI));
+    CHECK(gives(sjurnabel_circle_from_point_pair(3, -3), 0, 3, -3) && gives(sjurnabel_circle_from_point_pair(-3, 3), 0, 3, -3));
+    CHECK(gives(sjurnabel_circle_from_point_pair(0, PI), 0, 0, PI) && gives(sjurnabel_circle_from_point_pair(PI, 0), 0, PI, 0) && gives(sjurnabel_circle_from_point_pair(-PI, -PI), 0, PI, PI));
+    CHECK(gives(sjurnabel_circle_invert(span(1, 2)), 0, 2, 1) && gives(sjurnabel_circle_invert(full), 0, PI, -PI));
+    CHECK(gives(sjurnabel_circle_complement(span(1, 2)), 0, 2, 1) && gives(sjurnabel_circle_complement(span(1, 1)), 0, -PI, PI) && gives(sjurnabel_circle_complement(empty), 0, -PI, PI));
+    CHECK(gives(sjurnabel_circle_expanded(a, 0.5), 0, -1.5, 1.5) && gives(sjurnabel_circle_expanded(a, -0.5), 0, -0.5, 0.5) && gives(sjurnabel_circle_expanded(span(0, 0), 4), 0, -PI, PI));
+    CHECK(gives(sjurnabel_circle_expanded(a, -2), 0, PI, -PI) && gives(sjurnabel_circle_expanded(empty, 4), 0, PI, -PI) && gives(sjurnabel_circle_expanded(full, -4), 0, -PI, PI));
+    CHECK(gives(sjurnabel_circle_add(empty, -PI), 0, PI, PI) && gives(sjurnabel_circle_add(span(0, 1), 2), 0, 0, 2) && gives(sjurnabel_circle_add(span(0, 1), 4), SJURNABEL_BAD_POINT, 0, 1));
+    CHECK(is_number(sjurnabel_circle_center(span(1, 3)), 0, 2) && is_number(sjurnabel_circle_center(span(3, -3)), 0, PI));
+    CHECK(is_number(sjurnabel_circle_len(span(1, 3)), 0, 2) && is_number(sjurnabel_circle_len(empty), 0, -1) && is_number(sjurnabel_circle_len(full), 0, 2 * PI));
+    CHECK(is_number(sjurnabel_circle_positive_distance(0, 1), 0, 1) && is_number(sjurnabel_circle_positive_distance(1, 0), 0, PI - (1 - PI)));
+    CHECK(is_number(sjurnabel_circle_complement_center(span(0, 0)), 0, PI) && is_number(sjurnabel_circle_complement_center(span(2, 1)), 0, 1.5));
+    CHECK(is_number(sjurnabel_circle_directed_hausdorff_distance(a, a), 0, 0) && is_number(sjurnabel_circle_directed_hausdorff_distance(a, empty), 0, PI) && is_number(sjurnabel_circle_directed_hausdorff_distance(empty, empty), 0, 0));
+    const double points[] = {NAN, INFINITY, 4, -4, of_bits(0x400921FB54442D19)};
+    for (int k = 0; k < 5; k++) {
+        CHECK(gives(sjurnabel_circle_add(span(-0.0, 1), points[k]), SJURNABEL_BAD_POINT, -0.0, 1));
+        CHECK(gives(sjurnabel_circle_from_point_pair(points[k], 0), SJURNABEL_BAD_POINT, PI, -PI) && gives(sjurnabel_circle_from_point_pair(0, points[k]), SJURNABEL_BAD_POINT, PI, -PI));
+        CHECK(is_number(sjurnabel_circle_positive_distance(points[k], 0), SJURNABEL_BAD_POINT, 0) && is_number(sjurnabel_circle_positive_distance(0, points[k]), SJURNABEL_BAD_POINT, 0));
+        CHECK(gives(sjurnabel_circle_new(points[k], 0), k < 2 ? SJURNABEL_OUT_OF_REACH : SJURNABEL_NOT_VALID, PI, -PI));
+    }
+    const double margins[] = {NAN, INFINITY, -INFINITY, PAST, -PAST};
+    for (int k = 0; k < 5; k++) CHECK(gives(sjurnabel_circle_expanded(a, margins[k]), SJURNABEL_BAD_MARGIN, PI, -PI));
+}
+
+static void circle_tested(void) {
+    static sjurnabel_yes_no (*const of_one[])(sjurnabel_interval) = {sjurnabel_circle_is_valid, sjurnabel_circle_is_full, sjurnabel_circle_is_empty, sjurnabel_circle_is_inverted};
+    static sjurnabel_yes_no (*const of_point[])(sjurnabel_interval, double) = {sjurnabel_circle_fast_contains, sjurnabel_circle_interior_contains};
+    static sjurnabel_yes_no (*const of_two[])(sjurnabel_interval, sjurnabel_interval) = {sjurnabel_circle_interior_contains_interval, sjurnabel_circle_interior_intersects, sjurnabel_circle_eq, sjurnabel_circle_approx_eq};
+    static sjurnabel_interval_answer (*const changed[])(sjurnabel_interval) = {sjurnabel_circle_from_line, sjurnabel_circle_invert, sjurnabel_circle_complement};
+    static sjurnabel_number (*const measured[])(sjurnabel_interval) = {sjurnabel_circle_center, sjurnabel_circle_len, sjurnabel_circle_complement_center};
+    const sjurnabel_interval a = {-1, 1}, b = {1, -1}, full = {-PI, PI}, empty = {PI, -PI};
+    CHECK(says(sjurnabel_circle_is_valid(a), 0, true) && says(sjurnabel_circle_is_valid(empty), 0, true));
+    CHECK(says(sjurnabel_circle_is_full(full), 0, true) && says(sjurnabel_circle_is_full(span(NEAR_NEG_PI, PI)), 0, false));
+    CHECK(says(sjurnabel_circle_is_empty(empty), 0, true) && says(sjurnabel_circle_is_empty(b), 0, false));
+    CHECK(says(sjurnabel_circle_is_inverted(b), 0, true) && says(sjurnabel_circle_is_inverted(a), 0, false) && says(sjurnabel_circle_is_inverted(empty), 0, true));
+    CHECK(says(sjurnabel_circle_fast_contains(span(0, PI), -PI), 0, false) && says(sjurnabel_circle_fast_contains(span(0, PI), PI), 0, true));
+    CHECK(says(sjurnabel_circle_interior_contains(a, 1), 0, false) && says(sjurnabel_circle_interior_contains(a, -0.0), 0, true) && says(sjurnabel_circle_interior_contains(full, -PI), 0, true));
+    CHECK(says(sjurnabel_circle_interior_contains_interval(a, span(-0.5, 0.5)), 0, true) && says(sjurnabel_circle_interior_contains_interval(a, span(-1, 0)), 0, false));
+    CHECK(says(sjurnabel_circle_interior_intersects(a, b), 0, false) && says(sjurnabel_circle_interior_intersects(a, span(0, 2)), 0, true));
+    CHECK(says(sjurnabel_circle_eq(a, a), 0, true) && says(sjurnabel_circle_eq(a, b), 0, false) && says(sjurnabel_circle_eq(full, span(NEAR_NEG_PI, PI)), 0, false));
+    CHECK(says(sjurnabel_circle_approx_eq(a, span(-1, 1 + 4e-15)), 0, true) && says(sjurnabel_circle_approx_eq(a, b), 0, false) && says(sjurnabel_circle_approx_eq(span(PI, PI), span(of_bits(0xC00921FB54442D16), of_bits(0xC00921FB54442D16))), 0, false));
+    CHECK(says(sjurnabel_circle_approx_eq_by(span(0, 0), span(1, 1), 1), 0, true) && says(sjurnabel_circle_approx_eq_by(span(0, 0), span(1, 1), 0.5), 0, false) && says(sjurnabel_circle_approx_eq_by(empty, span(0, 1), 0.5), 0, false));
+    for (int k = 0; k < 7; k++) {
+        const int refusal = k < 3 ? SJURNABEL_OUT_OF_REACH : SJURNABEL_NOT_VALID;
+        const sjurnabel_interval r = bad_circle(k), o = bad_circle(k < 3 ? 3 : 0);
+        for (size_t f = 0; f < sizeof of_one / sizeof *of_one; f++) CHECK(says(of_one[f](r), refusal, false));
+        for (size_t f = 0; f < sizeof of_point / sizeof *of_point; f++) CHECK(says(of_point[f](r, NAN), refusal, false));
+        for (size_t f = 0; f < sizeof of_two / sizeof *of_two; f++) CHECK(says(of_two[f](r, o), refusal, false) && says(of_two[f](a, r), refusal, false));
+        for (size_t f = 0; f < sizeof changed / sizeof *changed; f++) CHECK(gives(changed[f](r), refusal, PI, -PI));
+        for (size_t f = 0; f < sizeof measured / sizeof *measured; f++) CHECK(is_number(measured[f](r), refusal, 0));
+        CHECK(gives(sjurnabel_circle_to_line(r), refusal, 1, 0) && gives(sjurnabel_circle_expanded(r, NAN), refusal, PI, -PI) && gives(sjurnabel_circle_add(r, NAN), refusal, PI, -PI));
+        CHECK(is_number(sjurnabel_circle_directed_hausdorff_distance(r, o), refusal, 0) && is_number(sjurnabel_circle_directed_hausdorff_distance(a, r), refusal, 0));
+        CHECK(says(sjurnabel_circle_approx_eq_by(r, o, NAN), refusal, false) && says(sjurnabel_circle_approx_eq_by(a, r, NAN), refusal, false));
+    }
+    const double points[] = {NAN, INFINITY, 4, -4, of_bits(0x400921FB54442D19)}, errors[] = {NAN, INFINITY, PAST};
+    for (int k = 0; k < 5; k++) for (size_t f = 0; f < sizeof of_point / sizeof *of_point; f++) CHECK(says(of_point[f](a, points[k]), SJURNABEL_BAD_POINT, false));
+    for (int k = 0; k < 3; k++) CHECK(says(sjurnabel_circle_approx_eq_by(a, a, errors[k]), SJURNABEL_BAD_MARGIN, false));
+}
+
+/* ---- the line ---- */
+static bool is_distance(sjurnabel_distance a, int refusal, bool unbounded, double x) { return a.refusal == refusal && a.unbounded == unbounded && same(a.value, x); }
+
+static void line(void) {
+    const sjurnabel_interval a = {0, 1}, b = {1, 2}, none = {2, 1};
+    CHECK(gives(sjurnabel_line_new(2, 1), 0, 2, 1) && gives(sjurnabel_line_new(-0.0, REACH), 0, 0, REACH) && gives(sjurnabel_line_from_point(-0.0), 0, 0, 0));
+    CHECK(gives(sjurnabel_line_from_point_pair(2, 1), 0, 1, 2) && gives(sjurnabel_line_from_point_pair(1, 2), 0, 1, 2));
+    CHECK(says(sjurnabel_line_is_empty(none), 0, true) && says(sjurnabel_line_is_empty(span(0, 0)), 0, false));
+    CHECK(is_number(sjurnabel_line_center(a), 0, 0.5) && is_number(sjurnabel_line_len(b), 0, 1) && is_number(sjurnabel_line_len(none), 0, -1));
+    CHECK(says(sjurnabel_line_contains(a, 1), 0, true) && says(sjurnabel_line_contains(a, 2), 0, false));
+    CHECK(says(sjurnabel_line_contains_interval(a, none), 0, true) && says(sjurnabel_line_contains_interval(a, span(0, 2)), 0, false));
+    CHECK(says(sjurnabel_line_interior_contains(a, 0.5), 0, true) && says(sjurnabel_line_interior_contains(a, 1), 0, false));
+    CHECK(says(sjurnabel_line_interior_contains_interval(span(0, 2), span(0.5, 1)), 0, true) && says(sjurnabel_line_interior_contains_interval(span(0, 2), a), 0, false));
+    CHECK(says(sjurnabel_line_intersects(a, b), 0, true) && says(sjurnabel_line_intersects(span(0, 3), none), 0, false));
+    CHECK(says(sjurnabel_line_interior_intersects(a, b), 0, false) && says(sjurnabel_line_interior_intersects(a, span(0.5, 0.5)), 0, true));
+    CHECK(says(sjurnabel_line_eq(none, span(1, 0)), 0, true) && says(sjurnabel_line_eq(a, b), 0, false));
+    CHECK(says(sjurnabel_line_approx_eq(span(0, 0), span(5e-15, 5e-15)), 0, true) && says(sjurnabel_line_approx_eq(a, b), 0, false));
+    CHECK(says(sjurnabel_line_approx_eq_by(span(0, 0), span(1, 1), 1), 0, true) && says(sjurnabel_line_approx_eq_by(span(1, 0), a, 0.5), 0, false));
+    CHECK(gives(sjurnabel_line_union(a, span(2, 3)), 0, 0, 3) && gives(sjurnabel_line_union(span(1, 0), span(2, 3)), 0, 2, 3));
+    CHECK(gives(sjurnabel_line_intersection(span(0, 2), span(1, 3)), 0, 1, 2) && gives(sjurnabel_line_intersection(a, span(2, 3)), 0, 2, 1));
+    CHECK(gives(sjurnabel_line_expanded(a, 1), 0, -1, 2) && gives(sjurnabel_line_expanded(a, -1), 0, 1, 0) && gives(sjurnabel_line_expanded(none, 9), 0, 2, 1));
+    CHECK(gives(sjurnabel_line_add(a, 3), 0, 0, 3) && gives(sjurnabel_line_add(none, 3), 0, 3, 3));
+    CHECK(is_number(sjurnabel_line_clamp_point(a, 2), 0, 1) && is_number(sjurnabel_line_clamp_point(a, 0.5), 0, 0.5) && is_number(sjurnabel_line_clamp_point(none, 9), 0, 2));
+    CHECK(is_distance(sjurnabel_line_directed_hausdorff_distance(span(0, 3), a), 0, false, 2) && is_distance(sjurnabel_line_directed_hausdorff_distance(a, span(0, 3)), 0, false, 0));
+    CHECK(is_distance(sjurnabel_line_directed_hausdorff_distance(a, none), 0, true, INFINITY) && is_distance(sjurnabel_line_directed_hausdorff_distance(none, none), 0, false, 0));
+}
+
+static void line_refused(void) {
+    static sjurnabel_yes_no (*const of_point[])(sjurnabel_interval, double) = {sjurnabel_line_contains, sjurnabel_line_interior_contains};
+    static sjurnabel_yes_no (*const of_two[])(sjurnabel_interval, sjurnabel_interval) = {sjurnabel_line_contains_interval, sjurnabel_line_interior_contains_interval, sjurnabel_line_intersects, sjurnabel_line_interior_intersects, sjurnabel_line_eq, sjurnabel_line_approx_eq};
+    static sjurnabel_interval_answer (*const joined[])(sjurnabel_interval, sjurnabel_interval) = {sjurnabel_line_union, sjurnabel_line_intersection};
+    static const double out_of_reach[] = {NAN, INFINITY, -INFINITY};
+    const sjurnabel_interval a = {-0.0, 1};
+    for (int k = 0; k < 5; k++) {
+        const double x = k < 3 ? out_of_reach[k] : k == 3 ? PAST : -PAST;
+        const sjurnabel_interval r = k % 2 ? span(0, x) : span(x, 0);
+        CHECK(gives(sjurnabel_line_new(x, 0), SJURNABEL_OUT_OF_REACH, 1, 0) && gives(sjurnabel_line_new(0, x), SJURNABEL_OUT_OF_REACH, 1, 0));
+        CHECK(gives(sjurnabel_line_from_point(x), SJURNABEL_BAD_POINT, 1, 0) && gives(sjurnabel_line_from_point_pair(x, 0), SJURNABEL_BAD_POINT, 1, 0) && gives(sjurnabel_line_from_point_pair(0, x), SJURNABEL_BAD_POINT, 1, 0));
+        CHECK(says(sjurnabel_line_is_empty(r), SJURNABEL_OUT_OF_REACH, false) && is_number(sjurnabel_line_center(r), SJURNABEL_OUT_OF_REACH, 0) && is_number(sjurnabel_line_len(r), SJURNABEL_OUT_OF_REACH, 0));
+        for (size_t f = 0; f < sizeof of_point / sizeof *of_point; f++) CHECK(says(of_point[f](r, NAN), SJURNABEL_OUT_OF_REACH, false) && says(of_point[f](a, x), SJURNABEL_BAD_POINT, false));
+        for (size_t f = 0; f < sizeof of_two / sizeof *of_two; f++) CHECK(says(of_two[f](r, a), SJURNABEL_OUT_OF_REACH, false) && says(of_two[f](a, r), SJURNABEL_OUT_OF_REACH, false));
+        for (size_t f = 0; f < sizeof joined / sizeof *joined; f++) CHECK(gives(joined[f](r, a), SJURNABEL_OUT_OF_REACH, 1, 0) && gives(joined[f](a, r), SJURNABEL_OUT_OF_REACH, 1, 0));
+        CHECK(says(sjurnabel_line_approx_eq_by(r, a, NAN), SJURNABEL_OUT_OF_REACH, false) && says(sjurnabel_line_approx_eq_by(a, r, NAN), SJURNABEL_OUT_OF_REACH, false) && says(sjurnabel_line_approx_eq_by(a, a, x), SJURNABEL_BAD_MARGIN, false));
+        CHECK(gives(sjurnabel_line_expanded(r, NAN), SJURNABEL_OUT_OF_REACH, 1, 0) && gives(sjurnabel_line_expanded(a, x), SJURNABEL_BAD_MARGIN, 1, 0));
+        CHECK(gives(sjurnabel_line_add(r, NAN), SJURNABEL_OUT_OF_REACH, 1, 0) && gives(sjurnabel_line_add(a, x), SJURNABEL_BAD_POINT, -0.0, 1));
+        CHECK(is_number(sjurnabel_line_clamp_point(r, NAN), SJURNABEL_OUT_OF_REACH, 0) && is_number(sjurnabel_line_clamp_point(a, x), SJURNABEL_BAD_POINT, 0));
+        CHECK(is_distance(sjurnabel_line_directed_hausdorff_distance(r, span(1, 0)), SJURNABEL_OUT_OF_REACH, false, 0) && is_distance(sjurnabel_line_directed_hausdorff_distance(a, r), SJURNABEL_OUT_OF_REACH, false, 0));
+    }
+}
+
+/* ---- GeoJSON ---- */
+static sjurnabel_bounds box(int64_t west, int64_t south, int64_t east, int64_t north) { sjurnabel_bounds b = {west, south, east, north}; return b; }
+static bool same_box(sjurnabel_bounds a, sjurnabel_bounds b) { return a.west == b.west && a.south == b.south && a.east == b.east && a.north == b.north; }
+static bool reads(const char *text, size_t n, int refusal, sjurnabel_bounds b) {
+    sjurnabel_bounds_answer a = sjurnabel_bbox_read(text, n);
+    return a.refusal == refusal && same_box(a.value, b);
+}
+static bool read_as(const char *text, sjurnabel_bounds b) { return reads(text, strlen(text), 0, b); }
+static bool unread(const char *text, int refusal) { return reads(text, strlen(text), refusal, box(0, 0, 0, 0)); }
+/* the text, its length, and nothing but zeros after it */
+static bool writes(sjurnabel_bounds b, int refusal, const char *text) {
+    sjurnabel_text a = sjurnabel_bbox_write(b);
+    for (size_t i = a.length; i < sizeof a.text; i++) if (a.text[i]) return false;
+    return a.refusal == refusal && a.length == strlen(text) && a.length < sizeof a.text && !strcmp(a.text, text);
+}
+static bool written_as(sjurnabel_bounds b, const char *text) { return writes(b, 0, text) && read_as(text, b); }
+
+#define DEGREE 10000000
+static void geojson(void) {
+    CHECK(read_as("[180,0,-180,1]", box(180 * (int64_t)DEGREE, 0, 180 * (int64_t)DEGREE, DEGREE)));
+    CHECK(read_as(" [ -100 ,\t40.5 ,\r\n100 , 60.0000001 ] ", box(-100 * DEGREE, 405000000, 100 * DEGREE, 600000001)));
+    CHECK(read_as("[-0,-0.0,0.0000000,-0]", box(0, 0, 0, 0)) && read_as("[-180,-90,180.0,90]", box(-1800000000, -900000000, 1800000000, 900000000)));
+    CHECK(reads("[1,2,3,4]]", 9, 0, box(DEGREE, 2 * DEGREE, 3 * DEGREE, 4 * DEGREE)) && reads("[1,2,3,4]]", 10, SJURNABEL_BAD_TEXT, box(0, 0, 0, 0)));
+    CHECK(reads("[1,2,3,4]", 0, SJURNABEL_BAD_TEXT, box(0, 0, 0, 0)) && reads("[1,2,3,4]", 10, SJURNABEL_BAD_TEXT, box(0, 0, 0, 0)));
+    static const char *const bad_texts[] = {"", "[]", "[1,2,3]", "[1,2,3,4,5]", "1,2,3,4", "[01,0,0,0]", "[1.,0,0,0]", "[.5,0,0,0]", "[+1,0,0,0]", "[1e1,0,0,0]", "[1.12345678,0,0,0]", "[1000,0,0,0]", "[- 1,0,0,0]", "[0,91,0,0", "[0,0,0,0] x", "[0 0,0,0]", "[--1,0,0,0]", "\xEF\xBB\xBF[0,0,0,0]"};
+    for (size_t k = 0; k < sizeof bad_texts / sizeof *bad_texts; k++) CHECK(unread(bad_texts[k], SJURNABEL_BAD_TEXT));
+    static const char *const bad_boxes[] = {"[180.0000001,0,0,0]", "[0,0,-180.0000001,0]", "[0,-90.0000001,0,0]", "[0,0,0,90.0000001]", "[0,1,0,0]", "[999,0,0,0]"};
+    for (size_t k = 0; k < sizeof bad_boxes / sizeof *bad_boxes; k++) CHECK(unread(bad_boxes[k], SJURNABEL_BAD_BOX));
+
+    CHECK(written_as(box(0, 0, 0, 0), "[0,0,0,0]") && written_as(box(-1800000000, -1, 1800000000, 900000000), "[-180,-0.0000001,180,90]"));
+    CHECK(written_as(box(5000000, -5000000, 1, 10), "[0.5,-0.5,0.0000001,0.000001]") && written_as(box(-1000000000, 450000000, -800000000, 600000000), "[-100,45,-80,60]"));
+    CHECK(written_as(box(-1799999999, -899999999, -1799999999, -899999999), "[-179.9999999,-89.9999999,-179.9999999,-89.9999999]"));
+    const sjurnabel_bounds refused[] = {{1800000001, 0, 0, 0}, {0, 0, -1800000001, 0}, {0, -900000001, 0, 0}, {0, 0, 0, 900000001}, {0, 1, 0, 0}, {-1800000000, 0, 0, 0}, {0, 0, -1800000000, 0}, {INT64_MIN, 0, 0, 0}, {0, 0, 0, INT64_MAX}};
+    for (size_t k = 0; k < sizeof refused / sizeof *refused; k++) CHECK(writes(refused[k], SJURNABEL_BAD_BOX, "") && answers(sjurnabel_bbox_rect(refused[k]), SJURNABEL_BAD_BOX, EMPTY));
+
+    CHECK(answers(sjurnabel_bbox_rect(box(-1800000000, -900000000, 1800000000, 900000000)), 0, FULL));
+    CHECK(answers(sjurnabel_bbox_rect(box(0, 0, 1800000000, 900000000)), 0, rect(0, HALF_PI, 0, PI)) && answers(sjurnabel_bbox_rect(box(1800000000, 0, 1800000000, 0)), 0, rect(0, 0, PI, PI)));
+    CHECK(answers(sjurnabel_bbox_rect(box(900000000, -900000000, -900000000, 0)), 0, rect(-HALF_PI, 0, HALF_PI, -HALF_PI)));
+}
+
 int main(void) {
     common_region();
     growth();
     scan();
     rectangles();
+    rectangles_made();
+    rectangles_tested();
     circle();
+    circle_made();
+    circle_tested();
+    line();
+    line_refused();
+    geojson();
     printf("%d passed, %d failed\n", passed, failed);
     return failed != 0;
 }

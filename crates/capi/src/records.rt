@@ -1,16 +1,26 @@
 // C's records, laid out as C lays them out, and the way from them to the port's records and back. What
-// comes in is an interval, a rectangle or a point, by value; what goes out has the refusal number first.
+// comes in is an interval, a rectangle, a point or a GeoJSON box, by value; what goes out has the refusal
+// number first. An interval of C may be one of the line or one of the circle: the function says which.
+use bbox::Answer as BoundsAnswer;
+use bbox::Bounds;
 use consts::Number;
 use consts::YesNo;
+use r1::interval::Answer as LineAnswer;
+use r1::interval::Distance;
+use r1::interval::Hausdorff;
 use r1::interval::Interval as Line;
 use region::Pieces;
 use s1::interval::Answer as CircleAnswer;
 use s1::interval::Interval as Circle;
 use s2::latlng::LatLng;
 use s2::rect::Answer;
+use s2::rect::PointAnswer;
 use s2::rect::Rect;
 ghost use mathlib.Core.Path.{_≡_};
-ghost use Rattle.capi.specs.Records.{circleOf, rectOf, latLngOf, yesNoBack, numberBack, circleBack, rectBack, piecesBack};
+ghost use Rattle.capi.specs.Records.{lineOf, circleOf, rectOf, latLngOf, boundsOf, yesNoBack, numberBack, lineBack, circleBack, rectBack, latLngBack, distanceBack, boundsBack, piecesBack};
+
+// The most bytes of a text that is written, 51, and a zero after it.
+pub(crate) const ROOM: usize = 52;
 
 #[repr(C)]
 pub struct CInterval {
@@ -28,6 +38,15 @@ pub struct CRect {
 pub struct CLatLng {
     pub lat: f64,
     pub lng: f64,
+}
+
+// A GeoJSON box, in whole ten-millionths of a degree.
+#[repr(C)]
+pub struct CBounds {
+    pub west: i64,
+    pub south: i64,
+    pub east: i64,
+    pub north: i64,
 }
 
 // The refusal number alone.
@@ -60,13 +79,48 @@ pub struct CRectAnswer {
     pub value: CRect,
 }
 
+// A point, or a size.
+#[repr(C)]
+pub struct CLatLngAnswer {
+    pub refusal: u8,
+    pub value: CLatLng,
+}
+
+// A distance that may be without bound: the value is infinity then.
+#[repr(C)]
+pub struct CDistance {
+    pub refusal: u8,
+    pub unbounded: bool,
+    pub value: f64,
+}
+
 #[repr(C)]
 pub struct CPieces {
     pub refusal: u8,
     pub count: usize,
 }
 
+#[repr(C)]
+pub struct CBoundsAnswer {
+    pub refusal: u8,
+    pub value: CBounds,
+}
+
+// A text and its length; every byte after it is zero.
+#[repr(C)]
+pub struct CText {
+    pub refusal: u8,
+    pub length: usize,
+    pub text: [u8; ROOM],
+}
+
 // ---- in
+
+pub(crate) fn line_of(i: CInterval) -> Line
+    ensures { λ r. ⌜ r ≡ lineOf i ⌝ }
+{
+    Line { lo: i.lo, hi: i.hi }
+}
 
 pub(crate) fn circle_of(i: CInterval) -> Circle
     ensures { λ r. ⌜ r ≡ circleOf i ⌝ }
@@ -97,6 +151,17 @@ pub(crate) fn latlng_of(p: CLatLng) -> LatLng
     }
 }
 
+pub(crate) fn bounds_of(b: CBounds) -> Bounds
+    ensures { λ r. ⌜ r ≡ boundsOf b ⌝ }
+{
+    Bounds {
+        west: b.west,
+        south: b.south,
+        east: b.east,
+        north: b.north,
+    }
+}
+
 // ---- out
 
 pub(crate) fn yes_no_back(a: YesNo) -> CYesNo
@@ -114,6 +179,19 @@ pub(crate) fn number_back(a: Number) -> CNumber
     CNumber {
         refusal: a.refusal,
         value: a.value,
+    }
+}
+
+pub(crate) fn line_back(a: LineAnswer) -> CIntervalAnswer
+    ensures { λ r. ⌜ r ≡ lineBack a ⌝ }
+{
+    let value = CInterval {
+        lo: a.value.lo,
+        hi: a.value.hi,
+    };
+    CIntervalAnswer {
+        refusal: a.refusal,
+        value,
     }
 }
 
@@ -143,6 +221,53 @@ pub(crate) fn rect_back(a: Answer) -> CRectAnswer
     };
     let value = CRect { lat, lng };
     CRectAnswer {
+        refusal: a.refusal,
+        value,
+    }
+}
+
+pub(crate) fn latlng_back(a: PointAnswer) -> CLatLngAnswer
+    ensures { λ r. ⌜ r ≡ latLngBack a ⌝ }
+{
+    let value = CLatLng {
+        lat: a.value.lat,
+        lng: a.value.lng,
+    };
+    CLatLngAnswer {
+        refusal: a.refusal,
+        value,
+    }
+}
+
+// A distance without bound is one over zero, since no constant can be infinity.
+pub(crate) fn distance_back(a: Hausdorff) -> CDistance
+    ensures { λ r. ⌜ r ≡ distanceBack a ⌝ }
+{
+    let d = a.value;
+    match d {
+        Distance::Of(value) => CDistance {
+            refusal: a.refusal,
+            unbounded: false,
+            value,
+        },
+        Distance::Unbounded => CDistance {
+            refusal: a.refusal,
+            unbounded: true,
+            value: 1.0 / 0.0,
+        },
+    }
+}
+
+pub(crate) fn bounds_back(a: BoundsAnswer) -> CBoundsAnswer
+    ensures { λ r. ⌜ r ≡ boundsBack a ⌝ }
+{
+    let value = CBounds {
+        west: a.value.west,
+        south: a.value.south,
+        east: a.value.east,
+        north: a.value.north,
+    };
+    CBoundsAnswer {
         refusal: a.refusal,
         value,
     }

@@ -17,11 +17,11 @@ pub fn in_reach(x: f64) -> bool
     (LEAST <= x) & (x <= MOST)
 }
 
-// Negative zero as zero, and every other number as it is.
+// Negative zero as zero, and every other number as it is: to add zero does just that, in one instruction.
 pub fn zero_read(x: f64) -> f64
     ensures { λ r. ⌜ r ≡ plain x ⌝ }
 {
-    if x == 0.0 { 0.0 } else { x }
+    x + 0.0
 }
 
 // A point, a margin or an error: x with zero read, under 0 where it is in reach and under the

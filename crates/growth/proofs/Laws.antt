@@ -20,13 +20,15 @@ use Rattle.s1.specs.Circle.{seam}
 use Rattle.s2.specs.declared.latlng.LatLng.{LatLng}
 use Rattle.s2.specs.declared.rect.Rect.{Rect}
 use Rattle.s2.specs.declared.rect.Answer.{Answer}
+use Rattle.s2.specs.declared.reading.One.{One}
+use Rattle.s2.specs.declared.reading.Pair.{Pair}
 use Rattle.s2.specs.Rect.{at, validLatitudes, valid, validPoint, grown}
 use Rattle.s2.specs.Reading.{rectInReach, asRead, plainPoint, readOne, readPoint}
 use Rattle.s2.specs.Answers.{rectAnswer, emptyUnder, add}
 use Rattle.s2.specs.Places.{Valid, ValidPoint, holds, Inside}
-use Rattle.s2.proofs.Readings.{one-in, one-out, one-not-valid, point-in, point-bad, valid-read, holds-read}
+use Rattle.s2.proofs.Readings.{one-in, one-out, one-not-valid, point-in, point-bad, valid-read, valid-point-plain, holds-read}
 use Rattle.s2.proofs.Accepted.{add-is}
-use Rattle.s2.proofs.Valid.{add-valid}
+use Rattle.s2.proofs.Valid.{grown-valid, add-valid}
 use Rattle.s2.proofs.Zeros.{NoMinusRect, add-plain}
 use Rattle.s2.proofs.Differences.{add-out, add-not-valid}
 use Rattle.s2.proofs.Places.{point-place, add-holds, add-refused}
@@ -50,6 +52,27 @@ valid-of r d k h =
 
 point-of : (p : LatLng) → DoublePoint p → validPoint p ≡ true → ValidPoint p
 point-of p d h = record { lat-double = d .lat-double; lng-double = d .lng-double; is-valid = h }
+
+-- a start that is accepted is valid as it is read, and growth by a point that is accepted keeps it so
+pub start-valid : (r : Rect) → Doubles r → (x : One) → x ≡ readOne r → x .refusal ≡ 0 → Valid (x .value)
+unfolding readOne
+start-valid r d x e k = subst (λ (y : One). Valid (y .value)) (sym e) (go (rectInReach r) (valid r) refl refl)
+  where
+    none : readOne r .refusal ≡ 0
+    none = ap (λ (y : One). y .refusal) (sym e) ∙ k
+
+    go : (s t : Bool) → rectInReach r ≡ s → valid r ≡ t → Valid (asRead r)
+    go true true a b = valid-read (valid-of r d a b)
+    go true false a b = absurd (omega (arith, sym (one-not-valid r a b) ∙ none))
+    go false t a b = absurd (omega (arith, sym (one-out r a) ∙ none))
+
+pub turn-valid : (q : Rect) → Valid q → (p : LatLng) → DoublePoint p → (x : Pair) → x ≡ readPoint p → x .refusal ≡ 0 → Valid (grown q (x .value))
+unfolding readPoint
+turn-valid q v p d x e k = subst (λ (y : Pair). Valid (grown q (y .value))) (sym e) (go (validPoint p) refl)
+  where
+    go : (t : Bool) → validPoint p ≡ t → Valid (grown q (plainPoint p))
+    go true h = grown-valid v (valid-point-plain (point-of p d h))
+    go false h = absurd (omega (arith, sym (point-bad p h) ∙ ap (λ (y : Pair). y .refusal) (sym e) ∙ k))
 
 -- ---- a rectangle with no negative zero is its own reading, and a reading has none
 read-same : (r : Rect) → NoMinusRect r → asRead r ≡ r

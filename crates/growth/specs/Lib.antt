@@ -1,3 +1,4 @@
 pub mod Growth
 pub mod Scan
 pub mod Points
+pub mod Held

@@ -279,7 +279,7 @@ unfolding whole
 not-whole arcs [] v a = refl
 not-whole arcs (x ∷ l) v a = piece-part arcs v (a .0)
 
-full-whole : whole (FULL ∷ []) ≡ true
+pub full-whole : whole (FULL ∷ []) ≡ true
 unfolding whole
 full-whole = full-full
 
@@ -337,18 +337,18 @@ start-state : State [] (FULL ∷ [])
 unfolding allFull
 start-state = all-full refl
 
--- ---- what is common depends on the entries alone
+-- ---- what is common depends on the places in every arc alone, and so on the entries alone
 pub every-same : (l m : List Interval) → ((i : Interval) → Mem i l → Mem i m) → ((i : Interval) → Mem i m → Mem i l) → (p : Float) (g : Bool) → everyHolds l p g ≡ everyHolds m p g
 every-same l m a b p g = both-ways _ _ (λ h. every-of m p g (λ i n. every-at p g h (b i n))) (λ h. every-of l p g (λ i n. every-at p g h (a i n)))
 
-pub same-common : (l m found : List Interval) → ((p : Float) (g : Bool) → everyHolds l p g ≡ everyHolds m p g) → CommonArcs l found → CommonArcs m found
+pub same-common : (l m found : List Interval) → ((p : Float) (g : Bool) → Place p g → everyHolds l p g ≡ everyHolds m p g) → CommonArcs l found → CommonArcs m found
 same-common l m found e c =
     record {
       valid = c .valid;
       non-empty = c .non-empty;
-      exact = λ p g q. c .exact p g q ∙ e p g;
+      exact = λ p g q. c .exact p g q ∙ e p g q;
       apart = c .apart;
-      unjoined = pairs-map (ArcsUnjoined l) (ArcsUnjoined m) (λ x y u j v k. u j v (λ p g q h. e p g ∙ k p g q h)) found (c .unjoined);
+      unjoined = pairs-map (ArcsUnjoined l) (ArcsUnjoined m) (λ x y u j v k. u j v (λ p g q h. e p g q ∙ k p g q h)) found (c .unjoined);
       rising = c .rising;
     }
 
@@ -361,7 +361,7 @@ length-onto arcs (i ∷ l) = length-onto (i ∷ arcs) l ∙ (omega arith)
 abbrev pub PlainArc : Interval → Type 0
 PlainArc x = (plain (x .lo) ≡ x .lo) × (plain (x .hi) ≡ x .hi)
 
-plain-full : PlainArc FULL
+pub plain-full : PlainArc FULL
 unfolding plain eq ofBits
 plain-full = (refl, refl)
 
@@ -387,7 +387,7 @@ module _ (arcs : List Interval) (v : All Valid arcs) where
 
   -- `common` lists the common pieces
   pub common-is : CommonArcs arcs (common arcs)
-  common-is = same-common (onto [] arcs) arcs (common arcs) same-places (state-common (onto [] arcs) (common arcs) (all-onto Valid [] arcs tt v) end-state)
+  common-is = same-common (onto [] arcs) arcs (common arcs) (λ p g q. same-places p g) (state-common (onto [] arcs) (common arcs) (all-onto Valid [] arcs tt v) end-state)
 
   -- with no negative zero where the arcs have none
   pub common-plain : All PlainArc arcs → All PlainArc (common arcs)

@@ -1,19 +1,13 @@
 -- Pieces at the front stay as they are: a piece that ends at b or before it lies in an arc that leads over the seam to b or a later end, and does not hold
--- the arc's western end. So the arc clips only the pieces after the front. Then the same in two arrays, of which parts are lent. Assumes nothing.
-use mathlib.Core.Path.{_≡_, refl, sym, ap, _∙_, subst}
+-- the arc's western end. So the arc clips only the pieces after the front. Assumes nothing.
+use mathlib.Core.Path.{_≡_, refl, sym, ap, _∙_}
 use mathlib.Core.Bool.{Bool, true, false, not, _&&_, _||_, cond, false≢true}
 use mathlib.Core.List.{List, [], _∷_, _++_, append-nil}
-use Prim.Native.Nat.{ℕ, zero, suc, _+_, _-_, _≤_, _<_}
-use native.Mathlib.Numerals.{add-one}
-use native.Mathlib.Omega.{arith}
-use lib.ListN.{length, drop, take, getD, length-append, length-drop, drop-of-length-le}
-use lib.Seq.{length-take-le, take-all, take-suc, take-append-add, take-at, take-take, take-add, getD-take}
-use borrow.Rule.Slice.PartMut.{midOf, putMid}
 use lib.Ieee.{Float, nan, inf, fin, binary64, fits, isNan, lt, le, eq}
 use Rattle.order.specs.Key.{Num}
 use Rattle.order.proofs.Keys.{lt-key, le-key, eq-key}
 use Rattle.order.proofs.Ranks.{and-l, and-r, and-of, or-of-r}
-use Rattle.order.proofs.Facts.{tests, le-refl, le-trans, lt-le, lt-not-eq}
+use Rattle.order.proofs.Facts.{tests, le-trans, lt-le, lt-not-eq}
 use Rattle.consts.specs.Constants.{PI, NEG-PI}
 use Rattle.s1.specs.declared.interval.Interval.{Interval}
 use Rattle.s1.specs.Circle.{ends, full, empty}
@@ -21,9 +15,8 @@ use Rattle.s1.specs.Places.{holds}
 use Rattle.s1.proofs.Held.{num-PI, num-NEG}
 use Rattle.region.specs.CommonRegion.{All}
 use Rattle.region.specs.Clipping.{someHolds, before, sooner, insert, cut, endAt, clip, whole, step}
-use Rattle.region.specs.Arrays.{zip}
-use Rattle.region.specs.Fronts.{settles, Settled, Told, IsFront, spares}
-use Rattle.region.proofs.Turns.{zip-length, zip-at}
+use Rattle.region.specs.Sweep.{settles, Settled, spares, Spared}
+use Rattle.region.proofs.Turns.{step-rest, clip-cut}
 
 -- ---- the order of doubles: what is compared is no NaN
 pub num-l : (x y : Float) → fits binary64 x ≡ true → le x y ≡ true → Num x ≡ true
@@ -41,63 +34,72 @@ num-r x (inf s) f h = and-of f refl
 num-r x (fin s m e) f h = and-of f refl
 
 module _ (x y : Float) (nx : Num x ≡ true) (ny : Num y ≡ true) where
-  le-not-lt : le x y ≡ true → lt y x ≡ false
-  le-not-lt h = simp (lt-key binary64) (omega (tests, simp (le-key binary64) at h))
+  pub le-no : le x y ≡ true → lt y x ≡ false
+  le-no h = simp (lt-key binary64) (omega (tests, simp (le-key binary64) at h))
 
-  lt-not-lt : lt x y ≡ true → lt y x ≡ false
-  lt-not-lt h = simp (lt-key binary64) (omega (tests, simp (lt-key binary64) at h))
+  pub lt-no : lt x y ≡ true → le y x ≡ false
+  lt-no h = simp (le-key binary64) (omega (tests, simp (lt-key binary64) at h))
+
+  pub lt-ne : lt x y ≡ true → eq x y ≡ false
+  lt-ne h = simp (eq-key binary64) (omega (tests, simp (lt-key binary64) at h))
 
 module _ (x y z : Float) (nx : Num x ≡ true) (ny : Num y ≡ true) (nz : Num z ≡ true) where
-  lt-le-lt : lt x y ≡ true → le y z ≡ true → lt x z ≡ true
+  pub lt-le-lt : lt x y ≡ true → le y z ≡ true → lt x z ≡ true
   lt-le-lt h k = simp (lt-key binary64) (omega (tests, simp (lt-key binary64) at h, simp (le-key binary64) at k))
 
-module _ (x y z : Float) (nx : Num x ≡ true) (ny : Num y ≡ true) (nz : Num z ≡ true) (h : le x y ≡ true) (k : lt y z ≡ true) where
-  le-lt : lt x z ≡ true
-  le-lt = simp (lt-key binary64) (omega (tests, simp (le-key binary64) at h, simp (lt-key binary64) at k))
+  pub le-lt : le x y ≡ true → lt y z ≡ true → lt x z ≡ true
+  le-lt h k = simp (lt-key binary64) (omega (tests, simp (le-key binary64) at h, simp (lt-key binary64) at k))
 
-  not-le : le z x ≡ false
-  not-le = simp (le-key binary64) (omega (tests, simp (le-key binary64) at h, simp (lt-key binary64) at k))
-
-  not-eq : eq x z ≡ false
-  not-eq = simp (eq-key binary64) (omega (tests, simp (le-key binary64) at h, simp (lt-key binary64) at k))
-
-and-off : (s t : Bool) → t ≡ false → s && t ≡ false
+pub and-off : (s t : Bool) → t ≡ false → s && t ≡ false
 and-off true t h = h
 and-off false t h = refl
 
+-- ---- what an interval holds, and which end is met first, by the tests' outcomes
+pub holds-is : (x : Interval) (p : Float) (t : Bool) → lt (x .hi) (x .lo) ≡ t → holds x p false ≡ cond t ((le (x .lo) p || le p (x .hi)) && not (empty x)) (le (x .lo) p && le p (x .hi))
+unfolding empty
+holds-is x p t e = ap (λ (w : Bool). cond w ((le (x .lo) p || le p (x .hi)) && not (empty x)) (le (x .lo) p && le p (x .hi))) e
+
+pub before-is : (s x y : Float) (t u v : Bool) → le s x ≡ t → lt y s ≡ u → le x y ≡ v → before s x y ≡ cond t (u || v) (u && v)
+unfolding before
+before-is s x y t u v p q r =
+    ap (λ (w : Bool). cond w (lt y s || le x y) (lt y s && le x y)) p ∙ ap (λ (w : Bool). cond t (w || le x y) (w && le x y)) q ∙ ap (λ (w : Bool). cond t (u || w) (u && w)) r
+
 -- ---- an arc that spares what ends at b or before it
-module _ (a : Interval) (b : Float) (fl : fits binary64 (a .lo) ≡ true) (fh : fits binary64 (a .hi) ≡ true) (fb : fits binary64 b ≡ true) (s : spares a b ≡ true) where
+module _ (a : Interval) (b : Float) (o : Spared a b true) where
+  tested : spares a b ≡ true
+  tested = sym (o .is)
+
   later : le b (a .hi) ≡ true
   unfolding spares
-  later = and-l _ _ (and-l _ _ s)
+  later = and-l _ _ (and-l _ _ tested)
 
   pub inverted : lt (a .hi) (a .lo) ≡ true
   unfolding spares
-  inverted = and-r (le b (a .hi)) _ (and-l _ _ s)
+  inverted = and-r (le b (a .hi)) _ (and-l _ _ tested)
 
   over : lt NEG-PI (a .hi) ≡ true
   unfolding spares
-  over = and-l _ _ (and-r (le b (a .hi) && lt (a .hi) (a .lo)) _ s)
+  over = and-l _ _ (and-r (le b (a .hi) && lt (a .hi) (a .lo)) _ tested)
 
   pub lo-under : le (a .lo) PI ≡ true
   unfolding spares
-  lo-under = and-r (lt NEG-PI (a .hi)) _ (and-r (le b (a .hi) && lt (a .hi) (a .lo)) _ s)
+  lo-under = and-r (lt NEG-PI (a .hi)) _ (and-r (le b (a .hi) && lt (a .hi) (a .lo)) _ tested)
 
   num-b : Num b ≡ true
-  num-b = num-l b (a .hi) fb later
+  num-b = num-l b (a .hi) (o .b-double) later
 
   pub num-hi : Num (a .hi) ≡ true
-  num-hi = num-r b (a .hi) fh later
+  num-hi = num-r b (a .hi) (o .hi-double) later
 
   pub num-lo : Num (a .lo) ≡ true
-  num-lo = num-r (a .hi) (a .lo) fl (lt-le (a .hi) (a .lo) inverted)
+  num-lo = num-r (a .hi) (a .lo) (o .lo-double) (lt-le (a .hi) (a .lo) inverted)
 
   under : lt (a .hi) PI ≡ true
   under = lt-le-lt (a .hi) (a .lo) PI num-hi num-lo num-PI inverted lo-under
 
   arc-part : full a ≡ false
   unfolding full
-  arc-part = and-off (eq (a .lo) NEG-PI) (eq (a .hi) PI) (not-eq (a .hi) (a .hi) PI num-hi num-hi num-PI (le-refl (a .hi) num-hi) under)
+  arc-part = and-off (eq (a .lo) NEG-PI) (eq (a .hi) PI) (lt-ne (a .hi) PI num-hi num-PI under)
 
   pub arc-some : empty a ≡ false
   unfolding empty
@@ -126,32 +128,26 @@ module _ (a : Interval) (b : Float) (fl : fits binary64 (a .lo) ≡ true) (fh : 
     start-in = le-trans (p .lo) (p .hi) (a .hi) num-start num-end num-hi rises end-in
 
     starts : holds a (p .lo) false ≡ true
-    unfolding empty
-    starts =
-        ap (λ (t : Bool). cond t ((le (a .lo) (p .lo) || le (p .lo) (a .hi)) && not (empty a)) (le (a .lo) (p .lo) && le (p .lo) (a .hi))) inverted
-        ∙ and-of (or-of-r (le (a .lo) (p .lo)) _ start-in) (ap not arc-some)
+    starts = holds-is a (p .lo) true inverted ∙ and-of (or-of-r (le (a .lo) (p .lo)) _ start-in) (ap not arc-some)
 
     end-first : before (p .lo) (p .hi) (a .hi) ≡ true
-    unfolding before
-    end-first =
-        ap (λ (t : Bool). cond t (lt (a .hi) (p .lo) || le (p .hi) (a .hi)) (lt (a .hi) (p .lo) && le (p .hi) (a .hi))) rises ∙ or-of-r (lt (a .hi) (p .lo)) _ end-in
+    end-first = before-is (p .lo) (p .hi) (a .hi) true false true rises (le-no (p .lo) (a .hi) num-start num-hi start-in) end-in
 
     uncut : ends (p .lo) (sooner (p .lo) (p .hi) (a .hi)) ≡ p
     unfolding sooner
     uncut = ap (λ (t : Bool). ends (p .lo) (cond t (p .hi) (a .hi))) end-first
 
     not-held : holds p (a .lo) false ≡ false
-    unfolding empty
     not-held =
-        ap (λ (t : Bool). cond t ((le (p .lo) (a .lo) || le (a .lo) (p .hi)) && not (empty p)) (le (p .lo) (a .lo) && le (a .lo) (p .hi))) (le-not-lt (p .lo) (p .hi) num-start num-end rises)
-        ∙ and-off (le (p .lo) (a .lo)) _ (not-le (p .hi) (a .hi) (a .lo) num-end num-hi num-lo end-in inverted)
+        holds-is p (a .lo) false (le-no (p .lo) (p .hi) num-start num-end rises)
+        ∙ and-off (le (p .lo) (a .lo)) _ (lt-no (p .hi) (a .lo) num-end num-lo (le-lt (p .hi) (a .hi) (a .lo) num-end num-hi num-lo end-in inverted))
 
     below : lt (p .lo) (a .lo) ≡ true
     below = le-lt (p .lo) (a .hi) (a .lo) num-start num-hi num-lo start-in inverted
 
     part : full p ≡ false
     unfolding full
-    part = and-off (eq (p .lo) NEG-PI) _ (not-eq (p .hi) (a .hi) PI num-end num-hi num-PI end-in under)
+    part = and-off (eq (p .lo) NEG-PI) _ (lt-ne (p .hi) PI num-end num-PI (le-lt (p .hi) (a .hi) PI num-end num-hi num-PI end-in under))
 
     pub still-settled : Settled (a .hi) p
     unfolding settles
@@ -180,9 +176,9 @@ module _ (a : Interval) (b : Float) (fl : fits binary64 (a .lo) ≡ true) (fh : 
     end-front e [] q = refl
     end-front e (p ∷ l) q = ap (λ (u : Bool). endAt (a .lo) (cond u (p .hi) e) (l ++ t)) (not-held p (q .0)) ∙ end-front e l (q .1)
 
-    whole-front : (l : List Interval) → All (Settled b) l → 0 < length l → whole (l ++ t) ≡ false
+    whole-front : (l : List Interval) → All (Settled b) l → whole t ≡ false → whole (l ++ t) ≡ false
     unfolding whole
-    whole-front [] q h = absurd (omega arith)
+    whole-front [] q h = h
     whole-front (p ∷ l) q h = part p (q .0)
 
   insert-front : (e : Float) (t l : List Interval) → All (Settled b) l → insert (ends (a .lo) e) (l ++ t) ≡ l ++ insert (ends (a .lo) e) t
@@ -190,7 +186,7 @@ module _ (a : Interval) (b : Float) (fl : fits binary64 (a .lo) ≡ true) (fh : 
   insert-front e t [] q = refl
   insert-front e t (p ∷ l) q =
       ap (λ (u : Bool). cond u (ends (a .lo) e ∷ p ∷ (l ++ t)) (cond (lt (p .lo) (a .lo)) (p ∷ insert (ends (a .lo) e) (l ++ t)) (p ∷ (l ++ t))))
-      (lt-not-lt (p .lo) (a .lo) (num-start p (q .0)) num-lo (below p (q .0)))
+      (le-no (p .lo) (a .lo) (num-start p (q .0)) num-lo (lt-le (p .lo) (a .lo) (below p (q .0))))
       ∙ ap (λ (u : Bool). cond u (p ∷ insert (ends (a .lo) e) (l ++ t)) (p ∷ (l ++ t))) (below p (q .0)) ∙ ap (λ (r : List Interval). p ∷ r) (insert-front e t l (q .1))
 
   module _ (l t : List Interval) (q : All (Settled b) l) where
@@ -208,109 +204,19 @@ module _ (a : Interval) (b : Float) (fl : fits binary64 (a .lo) ≡ true) (fh : 
         go false = refl
 
     -- the arc clips the pieces after the front alone
-    pub step-front : 0 < length l → step (l ++ t) a ≡ l ++ clip t a
-    unfolding step
-    step-front h =
-        ap (λ (u : Bool). cond u (l ++ t) (cond (whole (l ++ t)) (cond (empty a) [] (a ∷ [])) (clip (l ++ t) a))) arc-part
-        ∙ ap (λ (u : Bool). cond u (cond (empty a) [] (a ∷ [])) (clip (l ++ t) a)) (whole-front t l q h) ∙ clip-front
+    pub step-front : whole t ≡ false → step (l ++ t) a ≡ l ++ clip t a
+    step-front h = step-rest (l ++ t) a arc-part (whole-front t l q h) ∙ clip-front
 
--- ---- the front moved on
-pub all-snoc : (P : Interval → Type 0) (l : List Interval) (x : Interval) → All P l → P x → All P (l ++ (x ∷ []))
-all-snoc P [] x q r = (r, tt)
-all-snoc P (y ∷ l) x q r = (q .0, all-snoc P l x (q .1) r)
+  clip-none : clip [] a ≡ []
+  unfolding someHolds cut
+  clip-none = clip-cut [] a false false (sym arc-some) refl refl
 
-pub front-few : (lo hi : List Float) (m f : ℕ) (b : Float) → m < length lo → length lo ≡ length hi → IsFront (take m (zip lo hi)) f b → f ≤ m
-front-few lo hi m f b h q w = omega (arith, w .few, length-take-le m (zip lo hi) (omega (arith, zip-length lo hi q)))
+  pub step-settled : (l : List Interval) → All (Settled b) l → step l a ≡ l
+  unfolding whole
+  step-settled l q =
+      ap (λ (r : List Interval). step r a) (sym (append-nil l)) ∙ step-front l [] q refl ∙ ap (λ (r : List Interval). l ++ r) clip-none ∙ append-nil l
 
-pub no-front : (l : List Interval) (b : Float) → IsFront l 0 b
-no-front l b = record { few = omega arith; are = tt }
-
-pub front-turn : (lo hi : List Float) (m k : ℕ) (b : Float) (r : Bool) → k < m → m ≤ length lo → length lo ≡ length hi
-    → IsFront (take m (zip lo hi)) k b → Told (ends (getD lo k nan) (getD hi k nan)) b r → r ≡ true → IsFront (take m (zip lo hi)) (k + 1) b
-front-turn lo hi m k b r h n q f w t =
-    let z : Interval = ends (getD lo k nan) (getD hi k nan) in
-    let l : List Interval = take m (zip lo hi) in
-    let e : length l ≡ m = length-take-le m (zip lo hi) (omega (arith, zip-length lo hi q)) in
-    let i : k < length l = omega arith in
-    let at : getD l k z ≡ z = getD-take m (zip lo hi) k z (omega arith) ∙ zip-at lo hi k nan nan z (omega arith) q in
-    let s : Settled b z = record { lo-double = w .lo-double; hi-double = w .hi-double; is-settled = sym (w .is) ∙ t } in
-    record {
-      few = omega arith;
-      are = rw (add-one k, take-suc l k z i, at) (all-snoc (Settled b) (take k l) z (f .are) s);
-    }
-
--- ---- two arrays, of which the parts after the front are lent
-zip-append : (l h p q : List Float) → length l ≡ length h → zip (l ++ p) (h ++ q) ≡ zip l h ++ zip p q
-unfolding zip
-zip-append [] [] p q e = refl
-zip-append [] (y ∷ h) p q e = absurd (omega arith)
-zip-append (x ∷ l) [] p q e = absurd (omega arith)
-zip-append (x ∷ l) (y ∷ h) p q e = ap (λ (r : List Interval). ends x y ∷ r) (zip-append l h p q (omega arith))
-
-zip-nil : (l : List Float) → zip l [] ≡ []
-unfolding zip
-zip-nil [] = refl
-zip-nil (x ∷ l) = refl
-
-zip-take : (f : ℕ) (l h : List Float) → zip (take f l) (take f h) ≡ take f (zip l h)
-unfolding zip
-zip-take zero l h = refl
-zip-take (suc f) [] h = refl
-zip-take (suc f) (x ∷ l) [] = refl
-zip-take (suc f) (x ∷ l) (y ∷ h) = ap (λ (r : List Interval). ends x y ∷ r) (zip-take f l h)
-
-zip-drop : (f : ℕ) (l h : List Float) → zip (drop f l) (drop f h) ≡ drop f (zip l h)
-unfolding zip
-zip-drop zero l h = refl
-zip-drop (suc f) [] h = refl
-zip-drop (suc f) (x ∷ l) [] = zip-nil (drop f l)
-zip-drop (suc f) (x ∷ l) (y ∷ h) = zip-drop f l h
-
-mid-is : (f : ℕ) (l : List Float) → midOf f (length l - f) l ≡ drop f l
-mid-is f l = take-all (length l - f) (drop f l) (omega (arith, length-drop f l))
-
-pub mid-long : (f : ℕ) (l : List Float) → length (midOf f (length l - f) l) ≡ length l - f
-mid-long f l = ap length (mid-is f l) ∙ length-drop f l
-
-put-is : (f : ℕ) (l p : List Float) → putMid f (length l - f) l p ≡ take f l ++ p
-put-is f l p =
-    ap (λ (r : List Float). take f l ++ (p ++ r)) (drop-of-length-le (drop f l) {i = length l - f} (omega (arith, length-drop f l))) ∙ ap (λ (r : List Float). take f l ++ r) (append-nil p)
-
-module _ (lo hi p q : List Float) (m f k : ℕ) (h : m < length lo) (g : f ≤ m) (e : length lo ≡ length hi) where
-  abbrev d : List Interval
-  d = zip lo hi
-
-  abbrev d' : List Interval
-  d' = zip (putMid f (length lo - f) lo p) (putMid f (length hi - f) hi q)
-
-  front-long : length (take f (zip lo hi)) ≡ f
-  front-long = length-take-le f (zip lo hi) (omega (arith, zip-length lo hi e))
-
-  new-is : take (f + k) (zip (putMid f (length lo - f) lo p) (putMid f (length hi - f) hi q)) ≡ take f (zip lo hi) ++ take k (zip p q)
-  new-is =
-      ap (λ (r : List Float). take (f + k) (zip r (putMid f (length hi - f) hi q))) (put-is f lo p) ∙ ap (λ (r : List Float). take (f + k) (zip (take f lo ++ p) r)) (put-is f hi q)
-      ∙ ap (λ (r : List Interval). take (f + k) r) (zip-append (take f lo) (take f hi) p q (length-take-le f lo (omega arith) ∙ sym (length-take-le f hi (omega arith))) ∙ ap (λ (r : List Interval). r ++ zip p q) (zip-take f lo hi))
-      ∙ ap (λ (n : ℕ). take (n + k) (take f d ++ zip p q)) (sym front-long) ∙ take-append-add (take f d) (zip p q) k
-
-  old-is : take m (zip lo hi) ≡ take f (zip lo hi) ++ take (m - f) (zip (midOf f (length lo - f) lo) (midOf f (length hi - f) hi))
-  old-is =
-      let n : m ≡ f + (m - f) = omega arith in
-      ap (λ (n : ℕ). take n d) n ∙ take-add f (m - f) d
-      ∙ ap (λ (r : List Interval). take f d ++ take (m - f) r) (sym (zip-drop f lo hi) ∙ ap (λ (r : List Float). zip r (drop f hi)) (sym (mid-is f lo)) ∙ ap (λ (r : List Float). zip (midOf f (length lo - f) lo) r) (sym (mid-is f hi)))
-
-  module _ (a : Interval) (b : Float) (fl : fits binary64 (a .lo) ≡ true) (fh : fits binary64 (a .hi) ≡ true) (fb : fits binary64 b ≡ true) (s : spares a b ≡ true) (w : IsFront (take m (zip lo hi)) f b) where
-    settled : All (Settled b) (take f (zip lo hi))
-    settled = subst (λ (r : List Interval). All (Settled b) r) (take-take f m d g) (w .are)
-
-    pub rest-clipped : 0 < f → take k (zip p q) ≡ clip (take (m - f) (zip (midOf f (length lo - f) lo) (midOf f (length hi - f) hi))) a
-        → take (f + k) (zip (putMid f (length lo - f) lo p) (putMid f (length hi - f) hi q)) ≡ step (take m (zip lo hi)) a
-    rest-clipped z c =
-        new-is ∙ ap (λ (r : List Interval). take f d ++ r) c
-        ∙ sym (ap (λ (r : List Interval). step r a) old-is ∙ step-front a b fl fh fb s (take f d) (take (m - f) (zip (midOf f (length lo - f) lo) (midOf f (length hi - f) hi))) settled (omega (arith, front-long)))
-
-    pub still-front : IsFront (take (f + k) (zip (putMid f (length lo - f) lo p) (putMid f (length hi - f) hi q))) f (a .hi)
-    still-front =
-        record {
-          few = rw (new-is, length-append) (omega (arith, front-long));
-          are = rw (new-is, take-at (take f d) (take k (zip p q)) f front-long) (all-still a b fl fh fb s (take f d) settled);
-        }
+-- ---- the front and more
+pub all-append : (P : Interval → Type 0) (l t : List Interval) → All P l → All P t → All P (l ++ t)
+all-append P [] t q r = r
+all-append P (x ∷ l) t q r = (q .0, all-append P l t (q .1) r)

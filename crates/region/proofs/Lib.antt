@@ -15,5 +15,6 @@ pub mod Laws
 pub mod Examples
 pub mod Permutations
 pub mod AnyOrder
+pub mod Rising
 pub mod Many
 pub mod Listings

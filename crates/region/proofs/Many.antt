@@ -1,12 +1,13 @@
--- A turn of each loop of src/sorted.rt, on plain lists: the arcs taken up one by one, and clipped one by one. Assumes nothing.
+-- A turn of each loop over arcs, on plain lists: the arcs taken up one by one, of two kinds, and clipped one by one. Assumes nothing.
 use mathlib.Core.Path.{_≡_, sym, ap, _∙_}
+use mathlib.Core.Bool.{Bool, true, false, cond}
 use mathlib.Core.List.{List, [], _∷_, _++_, append-assoc, append-nil}
 use Prim.Native.Nat.{ℕ, suc, _+_, _≤_, _<_}
 use native.Mathlib.Numerals.{add-one}
 use native.Mathlib.Omega.{arith}
 use lib.ListN.{length, drop, take, getD, set}
 use lib.Seq.{drop-cons, drop-length, take-suc-set, getD-take, length-take-le}
-use lib.Ieee.{Float, nan}
+use lib.Ieee.{Float, nan, le}
 use Rattle.s1.specs.declared.interval.Interval.{Interval}
 use Rattle.s1.specs.Circle.{ends}
 use Rattle.s2.specs.declared.rect.Rect.{Rect}
@@ -14,26 +15,57 @@ use Rattle.s2.specs.Reading.{readOne}
 use Rattle.region.specs.Clipping.{step, steps}
 use Rattle.region.specs.Region.{lngs}
 use Rattle.region.specs.Answers.{rectsOf, rectAt, asReadAll}
+use Rattle.region.specs.Arcs.{rises, narrowed, risen, crossing}
 use Rattle.region.specs.Arrays.{zip}
-use Rattle.region.proofs.Turns.{four, zip-length, zip-at, zip-set}
+use Rattle.region.proofs.Turns.{four, none-left, zip-length, zip-at, zip-set}
 
--- ---- the arcs taken up: those so far and those of the rest are all
-pub taken-turn : (l lo hi : List Float) (i k : ℕ) (a : Interval) → i + 3 < length l → k < length lo → length lo ≡ length hi → a ≡ readOne (rectAt l i) .value .lng →
-    take (k + 1) (zip (set lo k (a .lo)) (set hi k (a .hi))) ++ lngs (asReadAll (rectsOf (drop (i + 4) l))) ≡ take k (zip lo hi) ++ lngs (asReadAll (rectsOf (drop i l)))
-unfolding lngs asReadAll readOne
-taken-turn l lo hi i k a h b q e =
-    ap (λ (z : List Interval). z ++ rest)
-    (ap (take (k + 1)) (zip-set lo hi k (a .lo) (a .hi)) ∙ ap (λ (n : ℕ). take n (set (zip lo hi) k a)) (add-one k) ∙ take-suc-set (zip lo hi) k a (omega (arith, zip-length lo hi q)))
-    ∙ append-assoc (take k (zip lo hi)) (a ∷ []) rest
-    ∙ ap (λ (x : Interval). take k (zip lo hi) ++ (x ∷ rest)) e
-    ∙ ap (λ (r : List Rect). take k (zip lo hi) ++ lngs (asReadAll r)) (sym (four l i h))
-  where
-    rest : List Interval
-    rest = lngs (asReadAll (rectsOf (drop (i + 4) l)))
+-- ---- the arcs taken up
+-- those of the numbers from i on
+abbrev pub arcsFrom : List Float → ℕ → List Interval
+arcsFrom l i = lngs (asReadAll (rectsOf (drop i l)))
 
-pub taken-end : (l lo hi : List Float) (k : ℕ) → take k (zip lo hi) ≡ take k (zip lo hi) ++ lngs (asReadAll (rectsOf (drop (length l) l)))
-unfolding lngs asReadAll rectsOf
-taken-end l lo hi k = rw (drop-length l) (sym (append-nil (take k (zip lo hi))))
+module _ (l : List Float) (i : ℕ) (h : i + 3 < length l) (a : Interval) (e : a ≡ readOne (rectAt l i) .value .lng) where
+  first-arc : arcsFrom l i ≡ a ∷ arcsFrom l (i + 4)
+  unfolding lngs asReadAll readOne
+  first-arc = ap (λ (r : List Rect). lngs (asReadAll r)) (four l i h) ∙ ap (λ (x : Interval). x ∷ arcsFrom l (i + 4)) (sym e)
+
+  -- one that rises is met with those so far
+  module _ (t : le (a .lo) (a .hi) ≡ true) where
+    pub risen-turn : (x new : Interval) → new ≡ narrowed x a → risen new (arcsFrom l (i + 4)) ≡ risen x (arcsFrom l i)
+    unfolding rises risen
+    risen-turn x new n =
+        ap (λ (z : Interval). risen z (arcsFrom l (i + 4))) (n ∙ ap (λ (b : Bool). cond b (narrowed x a) x) (sym t)) ∙ ap (risen x) (sym first-arc)
+
+    pub taken-past : (so-far : List Interval) → so-far ++ crossing (arcsFrom l (i + 4)) ≡ so-far ++ crossing (arcsFrom l i)
+    unfolding rises crossing
+    taken-past so-far =
+        ap (λ (b : Bool). so-far ++ cond b (crossing (arcsFrom l (i + 4))) (a ∷ crossing (arcsFrom l (i + 4)))) (sym t)
+        ∙ ap (λ (z : List Interval). so-far ++ crossing z) (sym first-arc)
+
+  -- one that crosses the seam is put after those so far
+  module _ (f : le (a .lo) (a .hi) ≡ false) where
+    pub risen-past : (x : Interval) → risen x (arcsFrom l (i + 4)) ≡ risen x (arcsFrom l i)
+    unfolding rises risen
+    risen-past x = ap (λ (b : Bool). risen (cond b (narrowed x a) x) (arcsFrom l (i + 4))) (sym f) ∙ ap (risen x) (sym first-arc)
+
+    pub taken-turn : (lo hi : List Float) (k : ℕ) → k < length lo → length lo ≡ length hi
+        → take (k + 1) (zip (set lo k (a .lo)) (set hi k (a .hi))) ++ crossing (arcsFrom l (i + 4)) ≡ take k (zip lo hi) ++ crossing (arcsFrom l i)
+    unfolding rises crossing
+    taken-turn lo hi k b q =
+        ap (λ (z : List Interval). z ++ crossing (arcsFrom l (i + 4)))
+        (ap (take (k + 1)) (zip-set lo hi k (a .lo) (a .hi)) ∙ ap (λ (n : ℕ). take n (set (zip lo hi) k a)) (add-one k) ∙ take-suc-set (zip lo hi) k a (omega (arith, zip-length lo hi q)))
+        ∙ append-assoc (take k (zip lo hi)) (a ∷ []) (crossing (arcsFrom l (i + 4)))
+        ∙ ap (λ (b : Bool). take k (zip lo hi) ++ cond b (crossing (arcsFrom l (i + 4))) (a ∷ crossing (arcsFrom l (i + 4)))) (sym f)
+        ∙ ap (λ (z : List Interval). take k (zip lo hi) ++ crossing z) (sym first-arc)
+
+-- none are left
+pub risen-end : (l : List Float) (x : Interval) → x ≡ risen x (arcsFrom l (length l))
+unfolding lngs asReadAll risen
+risen-end l x = ap (λ (r : List Rect). risen x (lngs (asReadAll r))) (sym (none-left l))
+
+pub taken-end : (l : List Float) (so-far : List Interval) → so-far ≡ so-far ++ crossing (arcsFrom l (length l))
+unfolding lngs asReadAll crossing
+taken-end l so-far = sym (ap (λ (r : List Rect). so-far ++ crossing (lngs (asReadAll r))) (none-left l) ∙ append-nil so-far)
 
 -- ---- the arcs clipped one by one
 module _ (west east : List Float) (n k : ℕ) (h : k < n) (b : n ≤ length west) (q : length west ≡ length east) where

@@ -99,6 +99,10 @@ own-all : trial₀ always (λ N P a b c d. imp (not (emptyN N P a b)) (holdsN N 
 unfolding trial₀ all imp
 own-all = refl
 
+rising-all : trial₀ always (λ N P a b c d. imp (leb a b) (ltb N b && (ltb N a || not (ltb b P)))) ≡ true
+unfolding trial₀ all imp
+rising-all = refl
+
 module _ {i o : Interval} {p : Float} {g : Bool} (v : Valid i) (w : Valid o) (q : Place p g) where
   abbrev l : List Float
   l = NEG-PI ∷ PI ∷ i .lo ∷ i .hi ∷ o .lo ∷ o .hi ∷ p ∷ []
@@ -207,6 +211,10 @@ module _ {i o : Interval} {p : Float} {g : Bool} (v : Valid i) (w : Valid o) (q 
   pub own-at : not (empty i) ≡ true → holds i (i .lo) false ≡ true
   unfolding empty
   own-at h = imp-at _ _ (simp ranks (at₀ _ own-all)) h
+
+  -- an arc that does not cross the seam ends above -PI; and it starts above -PI, or does not end below PI
+  pub rising-at : le (i .lo) (i .hi) ≡ true → lt NEG-PI (i .hi) && (lt NEG-PI (i .lo) || not (lt (i .hi) PI)) ≡ true
+  rising-at h = imp-at _ _ (simp ranks (at₀ _ rising-all)) h
 
 -- ---- four numbers, in any order
 trial₄ : (G : ℕ → ℕ → ℕ → ℕ → Bool) → Bool

@@ -15,7 +15,7 @@ use Rattle.r1.specs.Line as line
 use Rattle.s1.specs.declared.interval.Interval.{Interval}
 use Rattle.s2.specs.declared.rect.Rect.{Rect}
 use Rattle.region.specs.declared.region.Pieces.{Pieces}
-use Rattle.region.specs.declared.region.Found.{Found}
+use Rattle.region.specs.declared.finding.Found.{Found}
 use Rattle.region.specs.Clipping.{common}
 use Rattle.region.specs.Region.{band, lngs, across, region}
 use Rattle.region.specs.Answers.{rectsOf, numbers, asReadAll, piecesOf, wholeList, firstRefused, refusalOf, answer, left, Promised}

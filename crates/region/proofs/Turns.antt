@@ -15,12 +15,12 @@ use Rattle.consts.specs.Refusal.{firstRefusal}
 use Rattle.r1.specs.declared.interval.Interval.{Interval as Line}
 use Rattle.r1.specs.Line as line
 use Rattle.s1.specs.declared.interval.Interval.{Interval}
-use Rattle.s1.specs.Circle.{ends, FULL, fast, full, empty}
+use Rattle.s1.specs.Circle.{ends, fast, full, empty}
 use Rattle.s1.specs.Places.{holds}
 use Rattle.s2.specs.declared.rect.Rect.{Rect}
 use Rattle.s2.specs.Reading.{readOne}
-use Rattle.region.specs.Clipping.{someHolds, sooner, insert, cut, endAt, clip, whole, step, steps, common}
-use Rattle.region.specs.Region.{bandFrom, lngs}
+use Rattle.region.specs.Clipping.{someHolds, sooner, insert, cut, endAt, clip, whole, step}
+use Rattle.region.specs.Region.{bandFrom}
 use Rattle.region.specs.Answers.{rectsOf, rectAt, asReadAll, firstRefused}
 use Rattle.region.specs.Arrays.{zip}
 use Rattle.region.proofs.Insertion.{walk, turn-move, turn-past, turn-same, turn-end}
@@ -41,19 +41,13 @@ four l i h =
     more : (k : ℕ) → k + 4 ≡ suc (suc (suc (suc k)))
     more k = omega arith
 
-none-left : (l : List Float) → rectsOf (drop (length l) l) ≡ []
+pub none-left : (l : List Float) → rectsOf (drop (length l) l) ≡ []
 unfolding rectsOf
 none-left l = rw (drop-length l) refl
 
 module _ (l : List Float) (i : ℕ) (h : i + 3 < length l) where
   abbrev rest : List Rect
   rest = rectsOf (drop (i + 4) l)
-
-  pub steps-turn : (found new : List Interval) → new ≡ step found (readOne (rectAt l i) .value .lng)
-      → steps new (lngs (asReadAll (rectsOf (drop (i + 4) l)))) ≡ steps found (lngs (asReadAll (rectsOf (drop i l))))
-  unfolding steps lngs asReadAll readOne
-  steps-turn found new e =
-      ap (λ (m : List Interval). steps m (lngs (asReadAll rest))) e ∙ ap (λ (r : List Rect). steps found (lngs (asReadAll r))) (sym (four l i h))
 
   pub band-turn : (b new : Line) → new ≡ line.overlap b (readOne (rectAt l i) .value .lat) → bandFrom new (asReadAll (rectsOf (drop (i + 4) l))) ≡ bandFrom b (asReadAll (rectsOf (drop i l)))
   unfolding bandFrom asReadAll readOne
@@ -73,10 +67,6 @@ module _ (l : List Float) (i : ℕ) (h : i + 3 < length l) where
       ∙ ap (λ (m : ℕ). cond (eqb m 0) (firstRefused rest) m) (sym e) ∙ ap (λ (t : Bool). cond t (firstRefused rest) n) (eq-eqb n 0 k)
 
 -- none are left
-pub steps-end : (l : List Float) (found : List Interval) → found ≡ steps found (lngs (asReadAll (rectsOf (drop (length l) l))))
-unfolding steps lngs asReadAll
-steps-end l found = ap (λ (r : List Rect). steps found (lngs (asReadAll r))) (sym (none-left l))
-
 pub band-end : (l : List Float) (b : Line) → b ≡ bandFrom b (asReadAll (rectsOf (drop (length l) l)))
 unfolding bandFrom asReadAll
 band-end l b = ap (λ (r : List Rect). bandFrom b (asReadAll r)) (sym (none-left l))
@@ -84,10 +74,6 @@ band-end l b = ap (λ (r : List Rect). bandFrom b (asReadAll r)) (sym (none-left
 pub accepted-end : (l : List Float) → firstRefused (rectsOf (drop (length l) l)) ≡ 0
 unfolding firstRefused
 accepted-end l = ap (λ (r : List Rect). firstRefused r) (none-left l)
-
-pub steps-start : (arcs found : List Interval) → found ≡ FULL ∷ [] → steps found arcs ≡ common arcs
-unfolding common
-steps-start arcs found e = ap (λ (m : List Interval). steps m arcs) e
 
 -- ---- two arrays as one list
 pub zip-length : (l h : List Float) → length l ≡ length h → length (zip l h) ≡ length l

@@ -9,10 +9,14 @@ use lib.Ieee.{Float}
 use Rattle.consts.specs.Refusal.{number, accepted}
 use Rattle.r1.specs.Line as line
 use Rattle.s1.specs.declared.interval.Interval.{Interval}
-use Rattle.s1.specs.Circle.{ends}
+use Rattle.s1.specs.Circle.{ends, FULL}
 use Rattle.region.specs.declared.clip.Cut.{Cut}
-use Rattle.region.specs.declared.region.Found.{Found}
-use Rattle.region.specs.Clipping.{someHolds, cut, endAt, common}
+use Rattle.region.specs.declared.arcs.Arcs.{Arcs}
+use Rattle.region.specs.declared.finding.Found.{Found}
+use Rattle.region.specs.declared.finding.Tried.{Tried}
+use Rattle.region.specs.Clipping.{someHolds, cut, endAt, common, steps}
+use Rattle.region.specs.Arcs.{risen, crossing, met}
+use Rattle.region.specs.Permutations.{Permuted}
 use Rattle.region.specs.Region.{lngs, band}
 use Rattle.region.specs.Answers.{rectsOf, asReadAll, firstRefused}
 
@@ -42,9 +46,22 @@ pub record IsFound (l : List Float) (f : Found) (d : List Interval) : Type 0 whe
   pub is : f .refusal ≡ number accepted → line.empty (f .lat) ≡ false → take (f .count) d ≡ common (lngs (asReadAll (rectsOf l)))
   pub few : f .count ≤ length l / 4 + 1
 
--- the arcs of the list of numbers l are the first of d, in the list's order
-pub record IsArcs (l : List Float) (f : Found) (d : List Interval) : Type 0 where
-  pub refusal-is : f .refusal ≡ firstRefused (rectsOf l)
-  pub lat-is : f .refusal ≡ number accepted → f .lat ≡ band (asReadAll (rectsOf l))
-  pub is : f .refusal ≡ number accepted → take (f .count) d ≡ lngs (asReadAll (rectsOf l))
-  pub few : 4 * f .count ≤ length l
+-- the arcs of the list of numbers l: those that cross the seam are the first of d, in the list's order, and the others met
+pub record IsArcs (l : List Float) (a : Arcs) (d : List Interval) : Type 0 where
+  pub refusal-is : a .refusal ≡ firstRefused (rectsOf l)
+  pub lat-is : a .refusal ≡ number accepted → a .lat ≡ band (asReadAll (rectsOf l))
+  pub lng-is : a .refusal ≡ number accepted → a .lng ≡ risen FULL (lngs (asReadAll (rectsOf l)))
+  pub is : a .refusal ≡ number accepted → take (a .count) d ≡ crossing (lngs (asReadAll (rectsOf l)))
+  pub few : 4 * a .count ≤ length l
+
+-- the piece x clipped by the first of the n arcs, in their order; where these are all, the first of l are what is left of it
+pub record IsTried (arcs : List Interval) (n : ℕ) (x : Interval) (t : Tried) (l : List Interval) : Type 0 where
+  pub is : t .k ≡ n → take (t .m) l ≡ steps (x ∷ []) arcs
+  pub few : t .m ≤ n + 1
+
+-- the first m of l are the common pieces of x and the n arcs, in another order
+pub record IsMet (arcs : List Interval) (n : ℕ) (x : Interval) (m : ℕ) (l : List Interval) : Type 0 where
+  pub others : List Interval
+  pub permuted : Permuted arcs others
+  pub is : take m l ≡ met x others
+  pub few : m ≤ n + 1

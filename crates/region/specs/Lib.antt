@@ -3,5 +3,6 @@ pub mod Clipping
 pub mod Region
 pub mod Answers
 pub mod Arrays
-pub mod Fronts
+pub mod Arcs
+pub mod Sweep
 pub mod Permutations

@@ -1,12 +1,13 @@
 // The common region of a lent list of rectangles: all that lies in every one of them, as pieces of which
-// no two can be joined. `clip` clips the longitude pieces found so far by one arc more; `region` reads
-// the list, refuses, and writes the pieces out. Where there are many pieces `sorted` takes over: it has the
-// arcs put in order (`sort`), so that each one clips only the last pieces (`front`).
+// no two can be joined. `arcs` takes up the list; `finding` finds the longitude pieces; `region` refuses,
+// and writes the pieces out. A piece is clipped by arcs that cross the seam (`sweep`), which are put in
+// order before (`sort`); `clip` clips any pieces by any arc.
+mod arcs;
 mod clip;
-mod front;
+mod finding;
 mod region;
 mod sort;
-mod sorted;
+mod sweep;
 
 pub use region::Pieces;
 pub use region::common_region;

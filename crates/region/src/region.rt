@@ -1,97 +1,24 @@
 // The common region: a lent list of rectangles in, lat.lo, lat.hi, lng.lo, lng.hi each, and its pieces
 // out to a second lent list in the same form. Each rectangle is read as every operation on one reads it
 // (the crate s2). A refusal alters no number.
-use crate::clip::clip_one;
-use crate::sorted::find_sorted;
+use crate::finding::find;
 use consts::ACCEPTED;
 use consts::BAD_LIST;
 use consts::NO_ROOM;
 use r1::interval::Interval as Line;
 use r1::line;
-use s1::interval::Interval as Circle;
-use s2::reading::One;
-use s2::reading::read_one;
-use s2::rect::Rect;
 ghost use mathlib.Core.Path.{_≡_};
 ghost use mathlib.Core.List.{_++_};
-ghost use Prim.Native.Nat.{ℕ, _+_, _*_, _<_, _≤_, _%_};
-ghost use lib.ListN.{length, take, drop, getD};
-ghost use lib.Ieee.{nan};
-ghost use Rattle.r1.specs.Line as line;
-ghost use Rattle.s1.specs.Circle as circle;
-ghost use Rattle.s2.specs.Rect.{box};
-ghost use Rattle.s2.specs.Reading.{readOne};
+ghost use Prim.Native.Nat.{_+_, _*_, _≤_, _%_};
+ghost use lib.ListN.{length, take, drop};
 ghost use Rattle.region.specs.Region.{across};
-ghost use Rattle.region.specs.Answers.{rectAt, numbers, Promised};
-ghost use Rattle.region.specs.Arrays.{zip, IsFound};
+ghost use Rattle.region.specs.Answers.{numbers, Promised};
+ghost use Rattle.region.specs.Arrays.{zip};
 
 // How many pieces were listed; none under a refusal.
 pub struct Pieces {
     pub refusal: u8,
     pub count: usize,
-}
-
-// What a list of rectangles comes to: its first refusal or, under 0, how many longitude pieces were
-// found and the common latitude band.
-pub(crate) struct Found {
-    pub(crate) refusal: u8,
-    pub(crate) count: usize,
-    pub(crate) lat: Line,
-}
-
-// The rectangle that starts at the number i, as it is read.
-pub(crate) fn read_at(list: &[f64], i: usize) -> One
-    requires { ⌜ i + 3 < length (now list) ⌝ }
-    ensures { λ r. ⌜ r ≡ readOne (rectAt (now (list .entry)) i) ⌝ }
-{
-    let lat = Line {
-        lo: list[i],
-        hi: list[i + 1],
-    };
-    let lng = Circle {
-        lo: list[i + 2],
-        hi: list[i + 3],
-    };
-    read_one(Rect { lat, lng })
-}
-
-// So many pieces are clipped one by one. With more of them it pays to start again with sorted arcs.
-const MANY: usize = 32;
-
-// Reads the rectangles from the first, each met with the band and the pieces so far, which lie in `lo`
-// and `hi`.
-fn find(list: &[f64], lo: &mut [f64], hi: &mut [f64]) -> Found
-    requires { ⌜ (length (now list) % 4 ≡ 0) × (length (now list) ≤ 2048) × (length (now list) + 8 ≤ 4 * length (now lo)) × (length (now lo) ≡ length (now hi)) ⌝ }
-    ensures { λ r. ⌜ IsFound (now (list .entry)) r (zip (now (lo .exit)) (now (hi .exit))) ⌝ }
-{
-    let n = list.len();
-    let full = Rect::FULL;
-    let mut lat = full.lat;
-    lo[0] = full.lng.lo;
-    hi[0] = full.lng.hi;
-    let mut m = 1;
-    let mut i = 0;
-    while i < n {
-        if m > MANY {
-            return find_sorted(list, lo, hi);
-        }
-        let x = read_at(list, i);
-        if x.refusal != ACCEPTED {
-            return Found {
-                refusal: x.refusal,
-                count: 0,
-                lat,
-            };
-        }
-        lat = line::intersection(lat, x.value.lat);
-        m = clip_one(lo, hi, m, x.value.lng);
-        i += 4;
-    }
-    Found {
-        refusal: ACCEPTED,
-        count: m,
-        lat,
-    }
 }
 
 // The first n pieces, with the latitude band b, to the start of `out`.
@@ -109,12 +36,20 @@ fn write_out(lo: &[f64], hi: &[f64], n: usize, b: Line, out: &mut [f64])
     }
 }
 
-// The common region of a list of whole rectangles, with room for the pieces in `lo` and `hi`.
-fn region_in(list: &[f64], lo: &mut [f64], hi: &mut [f64], out: &mut [f64]) -> Pieces
-    requires { ⌜ (length (now list) % 4 ≡ 0) × (length (now list) ≤ 2048) × (length (now list) + 8 ≤ 4 * length (now lo)) × (length (now lo) ≡ length (now hi)) ⌝ }
+// The common region of a list of whole rectangles, with room for its arcs in `west` and `east` and for the
+// pieces in `lo` and `hi`.
+fn region_in(
+    list: &[f64],
+    west: &mut [f64],
+    east: &mut [f64],
+    lo: &mut [f64],
+    hi: &mut [f64],
+    out: &mut [f64],
+) -> Pieces
+    requires { ⌜ (length (now list) % 4 ≡ 0) × (length (now list) ≤ 2048) × (length (now list) ≤ 4 * length (now west)) × (length (now west) ≡ length (now east)) × (length (now list) + 8 ≤ 4 * length (now lo)) × (length (now lo) ≡ length (now hi)) ⌝ }
     ensures { λ r. ⌜ Promised (now (list .entry)) (now (out .entry)) r (now (out .exit)) ⌝ }
 {
-    let f = find(list, lo, hi);
+    let f = find(list, west, east, lo, hi);
     if f.refusal != ACCEPTED {
         return Pieces {
             refusal: f.refusal,
@@ -141,7 +76,7 @@ fn region_in(list: &[f64], lo: &mut [f64], hi: &mut [f64], out: &mut [f64]) -> P
 }
 
 // The common region of the rectangles in `list`, to the start of `out`. The arrays that the pieces are
-// found in have room for one piece a rectangle; a short list takes short ones.
+// found in have room for one arc and one piece a rectangle; a short list takes short ones.
 pub fn common_region(list: &[f64], out: &mut [f64]) -> Pieces
     ensures { λ r. ⌜ Promised (now (list .entry)) (now (out .entry)) r (now (out .exit)) ⌝ }
 {
@@ -159,16 +94,29 @@ pub fn common_region(list: &[f64], out: &mut [f64]) -> Pieces
         };
     }
     if n <= 64 {
+        let mut west = [0.0; 16];
+        let mut east = [0.0; 16];
         let mut lo = [0.0; 18];
         let mut hi = [0.0; 18];
-        return region_in(list, &mut lo, &mut hi, out);
+        return region_in(list, &mut west, &mut east, &mut lo, &mut hi, out);
     }
     if n <= 256 {
+        let mut west = [0.0; 64];
+        let mut east = [0.0; 64];
         let mut lo = [0.0; 66];
         let mut hi = [0.0; 66];
-        return region_in(list, &mut lo, &mut hi, out);
+        return region_in(list, &mut west, &mut east, &mut lo, &mut hi, out);
     }
+    if n <= 512 {
+        let mut west = [0.0; 128];
+        let mut east = [0.0; 128];
+        let mut lo = [0.0; 130];
+        let mut hi = [0.0; 130];
+        return region_in(list, &mut west, &mut east, &mut lo, &mut hi, out);
+    }
+    let mut west = [0.0; 512];
+    let mut east = [0.0; 512];
     let mut lo = [0.0; 514];
     let mut hi = [0.0; 514];
-    region_in(list, &mut lo, &mut hi, out)
+    region_in(list, &mut west, &mut east, &mut lo, &mut hi, out)
 }

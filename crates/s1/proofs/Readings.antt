@@ -5,12 +5,13 @@ use mathlib.Core.Bool.{true, _&&_}
 use lib.Ieee.{Float, nan, inf, fin, binary64, ofBits, lt, le, eq, fits, isNan}
 use Rattle.order.specs.Key.{Num}
 use Rattle.order.proofs.Ranks.{and-l, and-r, and-of}
+use Rattle.order.proofs.Facts.{lt-le, lt-not-eq}
 use Rattle.consts.specs.Constants.{PI, NEG-PI}
 use Rattle.consts.specs.Reading.{inReach}
 use Rattle.consts.proofs.Remainders.{pi-in-reach}
 use Rattle.s1.specs.declared.interval.Interval.{Interval}
 use Rattle.s1.specs.Circle.{valid}
-use Rattle.s1.specs.Reading.{onCircle}
+use Rattle.s1.specs.Reading.{usual, onCircle}
 
 -- a double from -PI on is a number
 pub num-of : (x : Float) → fits binary64 x ≡ true → le NEG-PI x ≡ true → Num x ≡ true
@@ -36,3 +37,16 @@ valid-on i h =
 
 pub valid-reach : (i : Interval) → fits binary64 (i .lo) ≡ true → fits binary64 (i .hi) ≡ true → valid i ≡ true → inReach (i .lo) && inReach (i .hi) ≡ true
 valid-reach i f g h = and-of (circle-reach (i .lo) f (valid-on i h .0)) (circle-reach (i .hi) g (valid-on i h .1))
+
+-- a usual interval is valid
+pub usual-valid : (i : Interval) → fits binary64 (i .lo) ≡ true → fits binary64 (i .hi) ≡ true → usual i ≡ true → valid i ≡ true
+unfolding usual valid
+usual-valid i f g h =
+    let a : lt NEG-PI (i .lo) ≡ true = search (and-l, and-r) in
+    let b : le (i .lo) PI ≡ true = search (and-l, and-r) in
+    let c : lt NEG-PI (i .hi) ≡ true = search (and-l, and-r) in
+    let d : le (i .hi) PI ≡ true = search (and-l, and-r) in
+    let n : Num NEG-PI ≡ true = unfold fits isNan ofBits in refl in
+    let p = lt-le NEG-PI (i .lo) a in
+    let q = lt-le NEG-PI (i .hi) c in
+    simp (p, b, q, d, lt-not-eq NEG-PI (i .lo) n (num-of (i .lo) f p) a, lt-not-eq NEG-PI (i .hi) n (num-of (i .hi) g q) c)

@@ -2,7 +2,7 @@
 -- under 1 where a number is out of reach and under 2 where it is not valid; then points (3), then a margin or an error (4).
 -- Definitions only; the laws are in proofs/Readings.antt.
 use mathlib.Core.Bool.{Bool, _&&_, cond}
-use lib.Ieee.{Float, le}
+use lib.Ieee.{Float, lt, le}
 use Rattle.consts.specs.declared.answer.Number.{Number}
 use Rattle.consts.specs.Constants.{PI, NEG-PI}
 use Rattle.consts.specs.Refusal.{number, accepted, outOfReach, notValid, badPoint, badMargin, firstRefusal}
@@ -16,6 +16,10 @@ use Rattle.s1.specs.Circle.{valid}
 -- both ends with negative zero read as zero
 abbrev pub plainEnds : Interval → Interval
 plainEnds i = record { lo = plain (i .lo); hi = plain (i .hi) }
+
+-- both ends are of size at most PI, and neither is -PI: enough to be valid (proofs/Readings.antt, `usual-valid`)
+unfoldable pub usual : Interval → Bool
+usual i = lt NEG-PI (i .lo) && le (i .lo) PI && lt NEG-PI (i .hi) && le (i .hi) PI
 
 unfoldable pub readOne : Interval → One
 readOne i =

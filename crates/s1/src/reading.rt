@@ -11,7 +11,7 @@ use consts::Number;
 use consts::OUT_OF_REACH;
 use consts::PI;
 ghost use mathlib.Core.Path.{_≡_};
-ghost use Rattle.s1.specs.Reading.{readOne, readEnds, readTwo, onCircle, readPoint, readWithPoint, readWithMargin};
+ghost use Rattle.s1.specs.Reading.{usual, readOne, readEnds, readTwo, onCircle, readPoint, readWithPoint, readWithMargin};
 
 // An interval as it is read.
 pub struct One {
@@ -33,11 +33,22 @@ pub struct With {
     pub number: f64,
 }
 
+// Whether an interval is a usual one: its ends are of size at most PI, and neither is -PI. Such a one is
+// valid; most are such, and need no other test.
+fn is_usual(i: Interval) -> bool
+    ensures { λ r. ⌜ r ≡ usual i ⌝ }
+{
+    (NEG_PI < i.lo) & (i.lo <= PI) & (NEG_PI < i.hi) & (i.hi <= PI)
+}
+
 // Why an interval is refused, or 0. A valid interval is in reach, so only one that is not valid is
 // tested a second time.
 fn refusal_of(i: Interval) -> u8
     ensures { λ r. ⌜ r ≡ (readOne i) .refusal ⌝ }
 {
+    if is_usual(i) {
+        return ACCEPTED;
+    }
     if circle::is_valid(i) {
         return ACCEPTED;
     }

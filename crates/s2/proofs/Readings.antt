@@ -2,9 +2,13 @@
 -- the first operand that is out of reach, or in reach and not valid, decides otherwise. Assumes nothing.
 use mathlib.Core.Path.{_≡_, refl, sym, _∙_}
 use mathlib.Core.Bool.{Bool, true, false, _&&_, cond, false≢true}
-use lib.Ieee.{Float, binary64, ofBits, fits, lt, le, eq}
+use Prim.Native.Nat.{ℕ}
+use lib.Dec.{eqb}
+use lib.Ieee.{Float, nan, inf, fin, binary64, ofBits, fits, isNan, lt, le, eq}
 use Rattle.order.specs.Key.{Num, Real}
+use Rattle.order.proofs.Keys.{lt-key, le-key}
 use Rattle.order.proofs.Ranks.{and-l, and-r, and-of}
+use Rattle.order.proofs.Facts.{tests, le-trans, lt-le, lt-not-eq}
 use Rattle.order.proofs.Bounds.{Between, between, widen}
 use Rattle.order.proofs.Monotone.{real-num}
 use Rattle.consts.specs.Constants.{PI, NEG-PI}
@@ -27,7 +31,7 @@ use Rattle.s1.proofs.Limits.{valid-plain}
 use Rattle.s2.specs.declared.latlng.LatLng.{LatLng}
 use Rattle.s2.specs.declared.rect.Rect.{Rect}
 use Rattle.s2.specs.Rect.{NORTH, SOUTH, latitude, validPoint, valid}
-use Rattle.s2.specs.Reading.{rectInReach, asRead, plainPoint, readOne, readTwo, readPoint, readMargins, readWithPoint, readWithMargins}
+use Rattle.s2.specs.Reading.{usual, rectInReach, asRead, plainPoint, readOne, readTwo, readPoint, readMargins, readWithPoint, readWithMargins}
 use Rattle.s2.specs.Places.{Place, Valid, ValidPoint, Margins, holds}
 
 -- ---- what is valid is in reach
@@ -57,6 +61,74 @@ valid-reach r f g h v k =
     let c : circle.valid (r .lng) ≡ true = search (and-l, and-r) in
     let on = valid-on (r .lng) c in
     and-of (and-of (and-of (latitude-reach (r .lat .lo) f a) k) (circle-reach (r .lng .lo) g (on .0))) (circle-reach (r .lng .hi) h (on .1))
+
+-- a usual rectangle is valid, with lat.hi in reach
+south-num : (x : Float) → fits binary64 x ≡ true → le SOUTH x ≡ true → Num x ≡ true
+unfolding le lt eq ofBits isNan fits
+south-num nan f h = h
+south-num (inf s) f h = refl
+south-num (fin s m e) f h = and-of f refl
+
+north-num : (x : Float) → fits binary64 x ≡ true → le x NORTH ≡ true → Num x ≡ true
+unfolding le lt eq ofBits isNan fits
+north-num nan f h = h
+north-num (inf s) f h = refl
+north-num (fin s m e) f h = and-of f refl
+
+rising : (x y : Float) → Num x ≡ true → Num y ≡ true → le x y ≡ true → lt y x ≡ false
+rising x y n m h = simp (lt-key binary64) (omega (tests, simp (le-key binary64) at h))
+
+and-off : (a b : Bool) → b ≡ false → a && b ≡ false
+and-off true b h = h
+and-off false b h = refl
+
+module _ (r : Rect) (f : fits binary64 (r .lat .lo) ≡ true) (g : fits binary64 (r .lat .hi) ≡ true) (h : fits binary64 (r .lng .lo) ≡ true) (k : fits binary64 (r .lng .hi) ≡ true) (u : usual r ≡ true) where
+  usual-latitudes : (latitude (r .lat .lo) ≡ true) × (latitude (r .lat .hi) ≡ true) × (line.empty (r .lat) ≡ false)
+  unfolding usual latitude line.empty
+  usual-latitudes =
+      let a : le SOUTH (r .lat .lo) ≡ true = search (and-l, and-r) in
+      let b : le (r .lat .lo) (r .lat .hi) ≡ true = search (and-l, and-r) in
+      let c : le (r .lat .hi) NORTH ≡ true = search (and-l, and-r) in
+      let n = south-num (r .lat .lo) f a in
+      let m = north-num (r .lat .hi) g c in
+      let s = real-num SOUTH (poles .0) in
+      let t = real-num NORTH (poles .1) in
+      (and-of a (le-trans (r .lat .lo) (r .lat .hi) NORTH n m t b c), and-of (le-trans SOUTH (r .lat .lo) (r .lat .hi) s n m a b) c, rising (r .lat .lo) (r .lat .hi) n m b)
+
+  usual-longitudes : (circle.valid (r .lng) ≡ true) × (circle.empty (r .lng) ≡ false)
+  unfolding usual circle.valid circle.empty
+  usual-longitudes =
+      let a : lt NEG-PI (r .lng .lo) ≡ true = search (and-l, and-r) in
+      let b : le (r .lng .lo) PI ≡ true = search (and-l, and-r) in
+      let c : lt NEG-PI (r .lng .hi) ≡ true = search (and-l, and-r) in
+      let d : le (r .lng .hi) PI ≡ true = search (and-l, and-r) in
+      let p = lt-le NEG-PI (r .lng .lo) a in
+      let q = lt-le NEG-PI (r .lng .hi) c in
+      let x = lt-not-eq NEG-PI (r .lng .lo) num-NEG (num-of (r .lng .lo) h p) a in
+      let y = lt-not-eq NEG-PI (r .lng .hi) num-NEG (num-of (r .lng .hi) k q) c in
+      (simp (p, b, q, d, x, y), and-off (eq (r .lng .lo) PI) (eq (r .lng .hi) NEG-PI) y)
+
+  pub usual-valid : valid r && inReach (r .lat .hi) ≡ true
+  unfolding valid
+  usual-valid =
+      let north : le (r .lat .hi) NORTH ≡ true = unfold latitude in and-r (le SOUTH (r .lat .hi)) _ (usual-latitudes .1) in
+      simp (usual-latitudes .0, north, usual-longitudes .0, usual-latitudes .2, usual-longitudes .1, latitude-reach (r .lat .hi) g (usual-latitudes .1))
+
+  -- so it is accepted
+  pub usual-in : readOne r .refusal ≡ number accepted
+  unfolding readOne
+  usual-in =
+      let v = and-l (valid r) (inReach (r .lat .hi)) usual-valid in
+      simp (valid-reach r f h k v (and-r (valid r) (inReach (r .lat .hi)) usual-valid), v)
+
+-- of two refusals that are the same, that one is given
+pub first-same : (n : ℕ) → firstRefusal n n ≡ n
+unfolding firstRefusal
+first-same n = same (eqb n 0)
+  where
+    same : (b : Bool) → cond b n n ≡ n
+    same true = refl
+    same false = refl
 
 -- in reach, a rectangle that is not accepted is not valid
 pub only-valid : (r : Rect) → valid r && inReach (r .lat .hi) ≡ false → rectInReach r ≡ true → valid r ≡ false

@@ -2,6 +2,8 @@
 -- where a number is out of reach and under 2 where it is not valid; then points (3), then margins, sizes or errors (4).
 -- Definitions only; the laws are in proofs/Readings.antt.
 use mathlib.Core.Bool.{Bool, _&&_, cond}
+use lib.Ieee.{lt, le}
+use Rattle.consts.specs.Constants.{PI, NEG-PI}
 use Rattle.consts.specs.Refusal.{number, accepted, outOfReach, notValid, badPoint, badMargin, firstRefusal}
 use Rattle.consts.specs.Reading.{inReach, plain, readNumber}
 use Rattle.r1.specs.Reading as line
@@ -12,7 +14,7 @@ use Rattle.s2.specs.declared.reading.One.{One}
 use Rattle.s2.specs.declared.reading.Two.{Two}
 use Rattle.s2.specs.declared.reading.Pair.{Pair}
 use Rattle.s2.specs.declared.reading.With.{With}
-use Rattle.s2.specs.Rect.{valid, validPoint}
+use Rattle.s2.specs.Rect.{NORTH, SOUTH, valid, validPoint}
 
 -- a rectangle as it is read: each number with negative zero as zero
 unfoldable pub asRead : Rect → Rect
@@ -25,6 +27,12 @@ plainPoint p = record { lat = plain (p .lat); lng = plain (p .lng) }
 -- all four numbers are in reach
 unfoldable pub rectInReach : Rect → Bool
 rectInReach r = inReach (r .lat .lo) && inReach (r .lat .hi) && inReach (r .lng .lo) && inReach (r .lng .hi)
+
+-- the latitudes rise from pole to pole, and no end of the longitudes is -PI: enough to be valid and in reach (proofs/Readings.antt, `usual-valid`)
+unfoldable pub usual : Rect → Bool
+usual r =
+    le SOUTH (r .lat .lo) && le (r .lat .lo) (r .lat .hi) && le (r .lat .hi) NORTH
+    && lt NEG-PI (r .lng .lo) && le (r .lng .lo) PI && lt NEG-PI (r .lng .hi) && le (r .lng .hi) PI
 
 unfoldable pub readOne : Rect → One
 readOne r =

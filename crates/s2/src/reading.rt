@@ -1,17 +1,22 @@
 // How the operands of a rectangle's operations are read, in the order of document 01: the rectangles
 // from left to right, then points, then margins, sizes or errors. Zeros are read on the way.
 use crate::latlng::LatLng;
+use crate::latlng::NORTH_POLE_LAT;
+use crate::latlng::SOUTH_POLE_LAT;
 use crate::rect::Rect;
 use crate::sphere;
 use consts::ACCEPTED;
 use consts::BAD_MARGIN;
 use consts::BAD_POINT;
+use consts::NEG_PI;
 use consts::NOT_VALID;
 use consts::OUT_OF_REACH;
+use consts::PI;
 use r1::interval::Interval as Line;
 use s1::interval::Interval as Circle;
 ghost use mathlib.Core.Path.{_≡_};
-ghost use Rattle.s2.specs.Reading.{rectInReach, readOne, readTwo, readPoint, readMargins, readWithPoint, readWithMargins};
+ghost use Rattle.consts.specs.Refusal.{firstRefusal};
+ghost use Rattle.s2.specs.Reading.{usual, rectInReach, asRead, readOne, readTwo, readPoint, readMargins, readWithPoint, readWithMargins};
 
 // A rectangle as it is read.
 pub struct One {
@@ -49,6 +54,20 @@ fn in_reach(r: Rect) -> bool
         & consts::in_reach(r.lng.hi)
 }
 
+// Whether a rectangle is a usual one: its latitudes rise within the poles, and no end of its longitudes is
+// -PI. Such a one is valid and in reach; most are such, and need no other test.
+fn is_usual(r: Rect) -> bool
+    ensures { λ b. ⌜ b ≡ usual r ⌝ }
+{
+    (SOUTH_POLE_LAT <= r.lat.lo)
+        & (r.lat.lo <= r.lat.hi)
+        & (r.lat.hi <= NORTH_POLE_LAT)
+        & (NEG_PI < r.lng.lo)
+        & (r.lng.lo <= PI)
+        & (NEG_PI < r.lng.hi)
+        & (r.lng.hi <= PI)
+}
+
 // Why a rectangle is refused, or 0. A valid one is in reach but perhaps for its lat.hi, which has no
 // least value: the others are tested only where it is not valid.
 fn refusal_of(r: Rect) -> u8
@@ -63,18 +82,58 @@ fn refusal_of(r: Rect) -> u8
     OUT_OF_REACH
 }
 
-// Reads a rectangle: every operation on one comes through here.
-pub fn read_one(r: Rect) -> One
-    ensures { λ x. ⌜ x ≡ readOne r ⌝ }
+// Why the first of two rectangles that is refused is refused, or 0. Whoever reads rectangles comes here where
+// one is not usual, and one alone comes twice: so the whole test is compiled once, and what most calls need
+// stays short enough to stand where it is used.
+fn first_of(r: Rect, o: Rect) -> u8
+    ensures { λ n. ⌜ n ≡ firstRefusal ((readOne r) .refusal) ((readOne o) .refusal) ⌝ }
 {
-    let refusal = refusal_of(r);
+    let a = refusal_of(r);
+    let b = refusal_of(o);
+    consts::first_refusal(a, b)
+}
+
+// The rectangle with its zeros read.
+fn plain(r: Rect) -> Rect
+    ensures { λ x. ⌜ x ≡ asRead r ⌝ }
+{
     let a = consts::zero_read(r.lat.lo);
     let b = consts::zero_read(r.lat.hi);
     let c = consts::zero_read(r.lng.lo);
     let d = consts::zero_read(r.lng.hi);
     let lat = Line { lo: a, hi: b };
     let lng = Circle { lo: c, hi: d };
-    let value = Rect { lat, lng };
+    Rect { lat, lng }
+}
+
+// Why one rectangle is refused, or 0.
+fn one_refusal(r: Rect) -> u8
+    ensures { λ n. ⌜ n ≡ (readOne r) .refusal ⌝ }
+{
+    if is_usual(r) {
+        ACCEPTED
+    } else {
+        first_of(r, r)
+    }
+}
+
+// Why the first of two is, or 0.
+fn two_refusal(r: Rect, o: Rect) -> u8
+    ensures { λ n. ⌜ n ≡ firstRefusal ((readOne r) .refusal) ((readOne o) .refusal) ⌝ }
+{
+    if is_usual(r) & is_usual(o) {
+        ACCEPTED
+    } else {
+        first_of(r, o)
+    }
+}
+
+// Reads a rectangle: every operation on one comes through here, or through the next.
+pub fn read_one(r: Rect) -> One
+    ensures { λ x. ⌜ x ≡ readOne r ⌝ }
+{
+    let refusal = one_refusal(r);
+    let value = plain(r);
     One { refusal, value }
 }
 
@@ -82,11 +141,9 @@ pub fn read_one(r: Rect) -> One
 pub fn read_two(r: Rect, o: Rect) -> Two
     ensures { λ x. ⌜ x ≡ readTwo r o ⌝ }
 {
-    let a = read_one(r);
-    let b = read_one(o);
-    let refusal = consts::first_refusal(a.refusal, b.refusal);
-    let left = a.value;
-    let right = b.value;
+    let refusal = two_refusal(r, o);
+    let left = plain(r);
+    let right = plain(o);
     Two {
         refusal,
         left,

@@ -185,38 +185,61 @@ pub fn intersection(r: Rect, other: Rect) -> Rect
 pub fn intersects(r: Rect, other: Rect) -> bool
     ensures { λ b. ⌜ b ≡ meets r other ⌝ }
 {
-    line::intersects(r.lat, other.lat) & circle::intersects(r.lng, other.lng)
+    if line::intersects(r.lat, other.lat) {
+        circle::intersects(r.lng, other.lng)
+    } else {
+        false
+    }
 }
 
 pub fn interior_intersects(r: Rect, other: Rect) -> bool
     ensures { λ b. ⌜ b ≡ strictlyMeets r other ⌝ }
 {
-    line::interior_intersects(r.lat, other.lat) & circle::interior_intersects(r.lng, other.lng)
+    if line::interior_intersects(r.lat, other.lat) {
+        circle::interior_intersects(r.lng, other.lng)
+    } else {
+        false
+    }
 }
 
 pub fn contains(r: Rect, other: Rect) -> bool
     ensures { λ b. ⌜ b ≡ covers r other ⌝ }
 {
-    line::contains_interval(r.lat, other.lat) & circle::contains_interval(r.lng, other.lng)
+    if line::contains_interval(r.lat, other.lat) {
+        circle::contains_interval(r.lng, other.lng)
+    } else {
+        false
+    }
 }
 
 pub fn interior_contains(r: Rect, other: Rect) -> bool
     ensures { λ b. ⌜ b ≡ strictlyCovers r other ⌝ }
 {
-    line::interior_contains_interval(r.lat, other.lat)
-        & circle::interior_contains_interval(r.lng, other.lng)
+    if line::interior_contains_interval(r.lat, other.lat) {
+        circle::interior_contains_interval(r.lng, other.lng)
+    } else {
+        false
+    }
 }
 
 pub fn contains_latlng(r: Rect, p: LatLng) -> bool
     ensures { λ b. ⌜ b ≡ has r p ⌝ }
 {
-    line::contains(r.lat, p.lat) & circle::contains(r.lng, p.lng)
+    if line::contains(r.lat, p.lat) {
+        circle::contains(r.lng, p.lng)
+    } else {
+        false
+    }
 }
 
 pub fn interior_contains_latlng(r: Rect, p: LatLng) -> bool
     ensures { λ b. ⌜ b ≡ strictlyHas r p ⌝ }
 {
-    line::interior_contains(r.lat, p.lat) & circle::interior_contains(r.lng, p.lng)
+    if line::interior_contains(r.lat, p.lat) {
+        circle::interior_contains(r.lng, p.lng)
+    } else {
+        false
+    }
 }
 
 pub fn add(r: Rect, p: LatLng) -> Rect
@@ -230,8 +253,11 @@ pub fn add(r: Rect, p: LatLng) -> Rect
 pub fn approx_eq_by(r: Rect, other: Rect, max_error: LatLng) -> bool
     ensures { λ b. ⌜ b ≡ approximates r other «max_error» ⌝ }
 {
-    line::approx_eq_by(r.lat, other.lat, max_error.lat)
-        & circle::approx_eq_by(r.lng, other.lng, max_error.lng)
+    if line::approx_eq_by(r.lat, other.lat, max_error.lat) {
+        circle::approx_eq_by(r.lng, other.lng, max_error.lng)
+    } else {
+        false
+    }
 }
 
 pub fn eq(r: Rect, other: Rect) -> bool

@@ -1,15 +1,10 @@
--- `consts::reading::zero_read`: at each return the answer is the definition's, under the tests that led there. Assumes nothing.
-use Rattle.consts.specs.Reading.{plain}
+-- `consts::reading::zero_read`: a double and +0 add up to the double, negative zero as zero. Assumes nothing.
+use Rattle.consts.proofs.Sums.{plus-zero}
 use Rattle.consts.proofs.reading.zero_read.Statement.{statement}
 use Rattle.consts.proofs.reading.zero_read.Tie as tie
 
 returns : tie.Need-returns
-unfolding plain
-returns c = simp (c .if1 .taken)
-
-returns-2 : tie.Need-returns-2
-unfolding plain
-returns-2 c = simp (c .if1 .left)
+returns c = plus-zero _ search
 
 pub zero-read-spec : {M : Type 1} → statement M
-zero-read-spec = tie.close (tie.spec returns returns-2)
+zero-read-spec = tie.close (tie.spec returns)

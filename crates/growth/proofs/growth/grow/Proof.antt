@@ -2,8 +2,9 @@
 use mathlib.Core.Path.{sym, _∙_}
 use native.Mathlib.Omega.{arith}
 use borrow.Author.Needs.{needs}
+use Rattle.growth.specs.Points.{Doubles}
 use Rattle.growth.proofs.Turns.{whole, odd, long, start-refused, start-read}
-use Rattle.growth.proofs.Laws.{list-refused}
+use Rattle.growth.proofs.Laws.{start-valid, list-refused}
 use Rattle.growth.proofs.growth.grow.Statement.{statement}
 use Rattle.growth.proofs.growth.grow.Tie as tie
 
@@ -37,7 +38,11 @@ returns-3 c =
     ∙ sym (start-refused (a .r) (a .points .now) (whole (a .points .now) (omega arith) (omega arith)) (x .result) (x .ensures) (c .before .if3 .taken))
 
 grow-points-requires : tie.Need-grow-points-requires
-grow-points-requires c κs = search needs
+grow-points-requires c κs =
+    let r = c .before .before .before .before .before .before .args .r in
+    let x = c .before .before .read-one in
+    let d : Doubles r = record { lat-lo = search; lat-hi = search; lng-lo = search; lng-hi = search } in
+    (omega arith, start-valid r d (x .result) (x .ensures) (c .if3 .left))
 
 returns-4 : tie.Need-returns-4
 returns-4 c =

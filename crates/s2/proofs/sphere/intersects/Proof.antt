@@ -1,4 +1,5 @@
 -- `s2::sphere::intersects`: at each return the answer is the definition's, under the tests that led there. Assumes nothing.
+use mathlib.Core.Path.{sym}
 use Rattle.s2.specs.Rect.{meets}
 use borrow.Author.Needs.{needs}
 use Rattle.s2.proofs.sphere.intersects.Statement.{statement}
@@ -12,7 +13,11 @@ intersects-requires-2 c κs = search needs
 
 returns : tie.Need-returns
 unfolding meets
-returns c = simp (← c .intersects2 .ensures, ← c .before .intersects .ensures)
+returns c = simp (sym (c .before .before .intersects .ensures), ← c .intersects2 .ensures, c .before .if1 .taken)
+
+returns-2 : tie.Need-returns-2
+unfolding meets
+returns-2 c = simp (sym (c .before .intersects .ensures), c .if1 .left)
 
 pub intersects-spec : {M : Type 1} → statement M
-intersects-spec = tie.close (tie.spec intersects-requires intersects-requires-2 returns)
+intersects-spec = tie.close (tie.spec intersects-requires intersects-requires-2 returns returns-2)

@@ -1,0 +1,41 @@
+//! The records of `include/sjurnabel.h`, and when two answers are the same: zeros of either sign are one
+//! number.
+
+pub trait Same {
+    fn same(&self, other: &Self) -> bool;
+}
+
+macro_rules! records {
+    ($($(#[$note:meta])* $name:ident { $($field:ident: $type:ty),* })*) => { $(
+        $(#[$note])*
+        #[repr(C)]
+        #[derive(Clone, Copy, Debug, PartialEq)]
+        pub struct $name { $(pub $field: $type),* }
+
+        impl Same for $name {
+            fn same(&self, other: &Self) -> bool {
+                self == other
+            }
+        }
+    )* };
+}
+
+records! {
+    Interval { lo: f64, hi: f64 }
+    Rect { lat: Interval, lng: Interval }
+    LatLng { lat: f64, lng: f64 }
+    Refused { refusal: u8 }
+    YesNo { refusal: u8, value: bool }
+    Number { refusal: u8, value: f64 }
+    IntervalAnswer { refusal: u8, value: Interval }
+    RectAnswer { refusal: u8, value: Rect }
+    LatLngAnswer { refusal: u8, value: LatLng }
+    /// The line's Hausdorff distance: a number, or none
+    Distance { refusal: u8, unbounded: bool, value: f64 }
+    Pieces { refusal: u8, count: usize }
+}
+
+pub const EMPTY: Rect = Rect {
+    lat: Interval { lo: 1.0, hi: 0.0 },
+    lng: Interval { lo: std::f64::consts::PI, hi: -std::f64::consts::PI },
+};

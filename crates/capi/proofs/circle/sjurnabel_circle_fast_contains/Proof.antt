@@ -1,0 +1,19 @@
+-- `capi::circle::sjurnabel_circle_fast_contains`: the operation's answer at C's records, turned back. Assumes nothing.
+use borrow.Author.Needs.{needs}
+use Rattle.capi.proofs.circle.sjurnabel_circle_fast_contains.Statement.{statement}
+use Rattle.capi.proofs.circle.sjurnabel_circle_fast_contains.Tie as tie
+
+circle-of-requires : tie.Need-circle-of-requires
+circle-of-requires c κs = search needs
+
+fast-contains-requires : tie.Need-fast-contains-requires
+fast-contains-requires c κs = search needs
+
+yes-no-back-requires : tie.Need-yes-no-back-requires
+yes-no-back-requires c κs = search needs
+
+returns : tie.Need-returns
+returns c = simp (← c .yes-no-back .ensures, ← c .before .fast-contains .ensures, ← c .before .before .circle-of .ensures)
+
+pub sjurnabel-circle-fast-contains-spec : {M : Type 1} → statement M
+sjurnabel-circle-fast-contains-spec = tie.close (tie.spec circle-of-requires fast-contains-requires yes-no-back-requires returns)

@@ -1,0 +1,22 @@
+-- `capi::line::sjurnabel_line_union`: the operation's answer at C's records, turned back. Assumes nothing.
+use borrow.Author.Needs.{needs}
+use Rattle.capi.proofs.line.sjurnabel_line_union.Statement.{statement}
+use Rattle.capi.proofs.line.sjurnabel_line_union.Tie as tie
+
+line-of-requires : tie.Need-line-of-requires
+line-of-requires c κs = search needs
+
+line-of-requires-2 : tie.Need-line-of-requires-2
+line-of-requires-2 c κs = search needs
+
+union-requires : tie.Need-union-requires
+union-requires c κs = search needs
+
+line-back-requires : tie.Need-line-back-requires
+line-back-requires c κs = search needs
+
+returns : tie.Need-returns
+returns c = simp (← c .line-back .ensures, ← c .before .union .ensures, ← c .before .before .line-of2 .ensures, ← c .before .before .before .line-of .ensures)
+
+pub sjurnabel-line-union-spec : {M : Type 1} → statement M
+sjurnabel-line-union-spec = tie.close (tie.spec line-of-requires line-of-requires-2 union-requires line-back-requires returns)

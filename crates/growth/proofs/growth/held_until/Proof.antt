@@ -1,0 +1,97 @@
+-- `growth::growth::held_until`: the loop keeps that the points passed over change nothing. One more is passed over by proofs/Held.antt, `held-turn`.
+-- Assumes nothing.
+use mathlib.Core.Path.{_≡_, refl, sym, _∙_}
+use mathlib.Core.Bool.{Bool, true, false, not}
+use Prim.Native.Nat.{_+_, _-_}
+use native.Mathlib.Omega.{arith}
+use borrow.Author.Needs.{needs}
+use denote.Floats.{is-true}
+use lib.ListN.{length}
+use Rattle.growth.specs.Growth.{pointAt}
+use Rattle.growth.specs.Points.{DoublePoint}
+use Rattle.growth.specs.Held.{HeldUntil}
+use Rattle.growth.proofs.Held.{held-turn}
+use Rattle.growth.proofs.growth.held_until.Statement.{statement}
+use Rattle.growth.proofs.growth.held_until.Tie as tie
+
+abbrev Inv-loop : tie.InvT-loop
+Inv-loop points first q n i₀ i = HeldUntil points first q i × (n ≡ length points)
+
+abbrev μ-loop : tie.MeasureT-loop
+μ-loop points first q n i₀ i = length points - i
+
+-- the test that did not turn back
+kept : {b : Bool} → not b ≡ false → b ≡ true
+kept {b = true} h = refl
+kept {b = false} h = sym h
+
+loop-holds : tie.Need-loop-holds Inv-loop μ-loop
+loop-holds c = (record { is = λ start. refl; from = omega arith; up-to = omega arith; whole = omega arith }, refl)
+
+mul-is-held : tie.Need-mul-is-held Inv-loop μ-loop
+mul-is-held c = search needs
+
+shared-slice-read-is-held : tie.Need-shared-slice-read-is-held Inv-loop μ-loop
+shared-slice-read-is-held c = search needs
+
+add-is-held : tie.Need-add-is-held Inv-loop μ-loop
+add-is-held c = search needs
+
+mul-is-held-2 : tie.Need-mul-is-held-2 Inv-loop μ-loop
+mul-is-held-2 c = search needs
+
+shared-slice-read-is-held-2 : tie.Need-shared-slice-read-is-held-2 Inv-loop μ-loop
+shared-slice-read-is-held-2 c = search needs
+
+is-held-requires : tie.Need-is-held-requires Inv-loop μ-loop
+is-held-requires c κs = search needs
+
+returns : tie.Need-returns Inv-loop μ-loop
+returns c = c .before .before .before .before .before .loop .inv .0
+
+add-i : tie.Need-add-i Inv-loop μ-loop
+add-i c = search needs
+
+loop-less : tie.Need-loop-less Inv-loop μ-loop
+loop-less c = search needs
+
+loop-again : tie.Need-loop-again Inv-loop μ-loop
+loop-again c =
+    let at = c .before .before .before .before .before in
+    let start = at .before .before in
+    let l = start .args .points .now in
+    let i = at .loop .i in
+    let fit = c .before .before .shared-slice-known3 .given in
+    let d : DoublePoint (pointAt l i) = record { lat-double = is-true _ (fit i); lng-double = is-true _ (fit (i + 1)) } in
+    let held = sym (c .before .is-held .ensures) ∙ kept (c .if1 .left) in
+    let was = at .loop .inv .0 in (
+      record {
+        is = λ r. held-turn r (start .args .q) l i (omega arith) (start .pre .3) d held ∙ was .is r;
+        from = omega arith;
+        up-to = omega arith;
+        whole = omega arith;
+      },
+      refl,
+    )
+
+returns-2 : tie.Need-returns-2 Inv-loop μ-loop
+returns-2 c = c .before .loop .inv .0
+
+pub held-until-spec : {M : Type 1} → statement M
+held-until-spec =
+    tie.close
+    (tie.spec
+    Inv-loop
+    μ-loop
+    loop-holds
+    mul-is-held
+    shared-slice-read-is-held
+    add-is-held
+    mul-is-held-2
+    shared-slice-read-is-held-2
+    is-held-requires
+    returns
+    add-i
+    loop-less
+    loop-again
+    returns-2)
