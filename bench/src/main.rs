@@ -4,7 +4,7 @@
 //!     bench compare           how many answers differ; the status is 1 if any does
 //!     bench count             runs each side of each row once, between two marks that the counter sees
 //!     bench time              nanoseconds a call of each side of each row, a line each
-//!     bench table COUNTS TIMES PROGRAM   the tables, from files with one number a line (TIMES may be -)
+//!     bench table COUNTS TIMES PROGRAM   the table, from files with one number a line (TIMES may be -)
 //!     bench zones N           a stream of N records
 //!     bench stream            the program `common` over the sweep
 //!     bench spawn FILE PROGRAM ARGS..    microseconds of a run of a program with that input, the least of many
@@ -120,20 +120,39 @@ fn numbers(file: &str) -> Vec<f64> {
     text.lines().map(|l| l.parse().expect("a number a line")).collect()
 }
 
+/// A time for each side of each row.
+fn times_of(rows: &[Row], file: &str) -> Vec<(f64, Option<f64>)> {
+    let mut left = numbers(file).into_iter();
+    let mut next = move || left.next().expect("a time for each side of each row");
+    rows.iter().map(|r| (next(), r.theirs.as_ref().map(|_| next()))).collect()
+}
+
 /// PROGRAM has the counts of the two whole programs and, where there are times, their times.
-fn print_tables(rows: &[Row], counts: &str, times: &str, program: &str) {
+fn print_table(rows: &[Row], counts: &str, times: &str, program: &str) {
     let marks: Vec<u64> = numbers(counts).iter().map(|&x| x as u64).collect();
-    let timed: Option<Vec<(f64, Option<f64>)>> = (times != "-").then(|| {
-        let mut left = numbers(times).into_iter();
-        let mut next = move || left.next().expect("a time for each side of each row");
-        rows.iter().map(|r| (next(), r.theirs.as_ref().map(|_| next()))).collect()
-    });
     let counted = table::per_call(rows, &marks);
-    table::print_limits(rows, &counted);
-    table::print(rows, &counted, timed.as_deref());
+    let timed = (times != "-").then(|| times_of(rows, times));
+    let mut lines: Vec<table::Line> = rows
+        .iter()
+        .enumerate()
+        .map(|(i, row)| table::Line {
+            group: row.group,
+            name: row.name.clone(),
+            limit: row.limit,
+            count: counted[i],
+            time: timed.as_ref().map(|t| t[i]),
+        })
+        .collect();
     let p = numbers(program);
-    let name = "512 records, a gap each, shuffled, 512 pieces";
-    table::print_program(name, (p[0], p[1]), (p.len() > 2).then(|| (p[2], p[3])));
+    lines.push(table::Line {
+        group: "stream, the whole program",
+        name: "512 records, a gap each, shuffled, 512 pieces".to_string(),
+        limit: None,
+        count: (p[0], Some(p[1])),
+        time: (p.len() > 2).then(|| (1000.0 * p[2], Some(1000.0 * p[3]))),
+    });
+    table::print_limits(&lines);
+    table::print(&lines);
 }
 
 fn main() {
@@ -143,7 +162,7 @@ fn main() {
         "compare" => std::process::exit(!compare(&rows()) as i32),
         "count" => count(&rows()),
         "time" => time(&rows()),
-        "table" => print_tables(&rows(), word(1), word(2), word(3)),
+        "table" => print_table(&rows(), word(1), word(2), word(3)),
         "zones" => stream::write(word(1).parse().expect("how many records")),
         "stream" => stream::run(),
         "spawn" => spawn(word(1), &words[2..]),

@@ -45,61 +45,44 @@ pub fn per_call(rows: &[Row], marks: &[u64]) -> Vec<(f64, Option<f64>)> {
         .collect()
 }
 
-fn heading(limited: bool, unit: Option<&str>) {
-    print!("| | library | beside | ratio |{}", if limited { " at most |" } else { "" });
-    match unit {
-        Some(u) => println!(" library, {u} | beside, {u} | ratio |"),
-        None => println!(),
-    }
-    println!(
-        "|---|---:|---:|---:|{}{}",
-        if limited { "---:|" } else { "" },
-        if unit.is_some() { "---:|---:|---:|" } else { "" }
-    );
+/// A line of the table: instructions, and nanoseconds where there are times.
+pub struct Line {
+    pub group: &'static str,
+    pub name: String,
+    pub limit: Option<f64>,
+    pub count: (f64, Option<f64>),
+    pub time: Option<(f64, Option<f64>)>,
 }
 
-/// One line for each row under the heading of its group; times where there are any.
-pub fn print(rows: &[Row], counts: &[(f64, Option<f64>)], times: Option<&[(f64, Option<f64>)]>) {
+/// One table; the name of a group stands at its first line.
+pub fn print(lines: &[Line]) {
+    let timed = lines.iter().any(|l| l.time.is_some());
+    print!("\n| | | library | beside | ratio | at most |");
+    println!("{}", if timed { " library, ns | beside, ns | ratio |" } else { "" });
+    println!("|---|---|---:|---:|---:|---:|{}", if timed { "---:|---:|---:|" } else { "" });
     let mut group = "";
-    for (i, row) in rows.iter().enumerate() {
-        let limited = rows.iter().any(|r| r.group == row.group && r.limit.is_some());
-        if row.group != group {
-            group = row.group;
-            println!("\n### {}{}\n", group[..1].to_uppercase(), &group[1..]);
-            heading(limited, times.map(|_| "ns"));
-        }
-        print!("| {} | {} |", row.name, cells(counts[i].0, counts[i].1));
-        if limited {
-            print!(" {} |", row.limit.map_or(String::new(), |l| format!("{l:.1}")));
-        }
-        match times {
-            Some(t) => println!(" {} |", cells(t[i].0, t[i].1)),
+    for line in lines {
+        let first = if line.group == group { "" } else { line.group };
+        group = line.group;
+        let limit = line.limit.map_or(String::new(), |l| format!("{l:.1}"));
+        print!("| {first} | {} | {} | {limit} |", line.name, cells(line.count.0, line.count.1));
+        match line.time {
+            Some((ours, theirs)) => println!(" {} |", cells(ours, theirs)),
             None => println!(),
         }
     }
 }
 
 /// Which ratios are above what they are to be at most.
-pub fn print_limits(rows: &[Row], counts: &[(f64, Option<f64>)]) {
-    let limited = rows.iter().zip(counts).filter_map(|(r, c)| Some((r, c.0 / c.1?, r.limit?)));
+pub fn print_limits(lines: &[Line]) {
+    let limited = lines.iter().filter_map(|l| Some((l, l.count.0 / l.count.1?, l.limit?)));
     let (within, above): (Vec<_>, Vec<_>) = limited.partition(|(_, ratio, limit)| ratio <= limit);
     println!(
         "\nRatios of instructions that were to be at most so much: {} are, {} are not.",
         within.len(),
         above.len()
     );
-    for (row, ratio, limit) in above {
-        println!("- {}, {}: {ratio:.2}, and not {limit:.1}.", row.group, row.name);
-    }
-}
-
-/// The line of a whole program: instructions, and microseconds where it was timed.
-pub fn print_program(name: &str, counts: (f64, f64), times: Option<(f64, f64)>) {
-    println!("\n### Stream, as whole programs\n");
-    heading(false, times.map(|_| "µs"));
-    print!("| {name} | {} |", cells(counts.0, Some(counts.1)));
-    match times {
-        Some(t) => println!(" {} |", cells(t.0, Some(t.1))),
-        None => println!(),
+    for (line, ratio, limit) in above {
+        println!("- {}, {}: {ratio:.2}, and not {limit:.1}.", line.group, line.name);
     }
 }
