@@ -1,9 +1,5 @@
-//! The records of `include/sjurnabel.h`, and when two answers are the same: zeros of either sign are one
+//! The records of `include/sjurnabel.h`. Two answers are the same if `==` says so: zeros of either sign are one
 //! number.
-
-pub trait Same {
-    fn same(&self, other: &Self) -> bool;
-}
 
 macro_rules! records {
     ($($(#[$note:meta])* $name:ident { $($field:ident: $type:ty),* })*) => { $(
@@ -11,12 +7,6 @@ macro_rules! records {
         #[repr(C)]
         #[derive(Clone, Copy, Debug, PartialEq)]
         pub struct $name { $(pub $field: $type),* }
-
-        impl Same for $name {
-            fn same(&self, other: &Self) -> bool {
-                self == other
-            }
-        }
     )* };
 }
 

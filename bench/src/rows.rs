@@ -1,8 +1,6 @@
 //! A row of the table: one operation on stored inputs, through the library and through what it is held
 //! against, by the same loop. `nothing` is a function that returns at once: what the loop itself costs.
 
-use crate::records::Same;
-
 pub struct Row {
     pub group: &'static str,
     pub name: String,
@@ -32,8 +30,8 @@ pub fn nothing<F: Copy>() -> F {
 }
 
 /// How many answers to the inputs differ.
-pub fn differing<I, R: Same>(inputs: &[I], ours: impl Fn(&I) -> R, theirs: impl Fn(&I) -> R) -> usize {
-    inputs.iter().filter(|i| !ours(i).same(&theirs(i))).count()
+pub fn differing<I, R: PartialEq>(inputs: &[I], ours: impl Fn(&I) -> R, theirs: impl Fn(&I) -> R) -> usize {
+    inputs.iter().filter(|i| ours(i) != theirs(i)).count()
 }
 
 /// The loop that makes a call on each input, for functions of one type.

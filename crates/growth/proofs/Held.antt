@@ -5,11 +5,11 @@ use mathlib.Core.Bool.{Bool, true, false, not, _&&_, _||_, cond, false≢true}
 use mathlib.Core.List.{List}
 use Prim.Native.Nat.{ℕ, _+_, _<_}
 use lib.ListN.{length, drop}
-use lib.Ieee.{Float, nan, inf, fin, binary64, fits, isNan, lt, le, eq}
+use lib.Ieee.{Float, binary64, fits, le, eq}
 use Rattle.order.specs.Key.{Num}
-use Rattle.order.proofs.Keys.{lt-key, le-key, eq-key}
+use Rattle.order.proofs.Keys.{le-key, eq-key}
 use Rattle.order.proofs.Ranks.{and-l, and-r, and-of, or-of-l, or-of-r}
-use Rattle.order.proofs.Facts.{tests, le-trans, not-le}
+use Rattle.order.proofs.Facts.{tests, le-trans, num-r, le-no, not-le}
 use Rattle.order.proofs.Monotone.{real-num}
 use Rattle.consts.specs.Constants.{PI, NEG-PI}
 use Rattle.consts.specs.Refusal.{number, accepted}
@@ -41,22 +41,10 @@ use Rattle.growth.specs.Points.{DoublePoint}
 use Rattle.growth.specs.Held.{isOn, isHeld}
 use Rattle.growth.proofs.Turns.{grow-turn}
 
--- ---- the order of doubles: what lies above a number is one
-above-num : (x y : Float) → fits binary64 y ≡ true → le x y ≡ true → Num y ≡ true
-unfolding le lt eq isNan
-above-num nan nan f h = absurd (false≢true h)
-above-num (inf s) nan f h = absurd (false≢true h)
-above-num (fin s m e) nan f h = absurd (false≢true h)
-above-num x (inf s) f h = and-of f refl
-above-num x (fin s m e) f h = and-of f refl
-
-rising : (x y : Float) → Num x ≡ true → Num y ≡ true → le x y ≡ true → lt y x ≡ false
-rising x y n m h = simp (lt-key binary64) (omega (tests, simp (le-key binary64) at h))
-
 -- ---- the latitudes
 module _ (i : Line) (x : Float) (a : Range i) (f : fits binary64 x ≡ true) (h : le (i .lo) x ≡ true) (k : le x (i .hi) ≡ true) where
   lat-num : Num x ≡ true
-  lat-num = above-num (i .lo) x f h
+  lat-num = num-r (i .lo) x f h
 
   low-num : Num (i .lo) ≡ true
   low-num = place-num (a .south .is-place)
@@ -74,15 +62,15 @@ module _ (i : Line) (x : Float) (a : Range i) (f : fits binary64 x ≡ true) (h 
 
   lat-filled : line.empty i ≡ false
   unfolding line.empty
-  lat-filled = rising (i .lo) (i .hi) low-num high-num (le-trans (i .lo) x (i .hi) low-num lat-num high-num h k)
+  lat-filled = le-no (i .lo) (i .hi) low-num high-num (le-trans (i .lo) x (i .hi) low-num lat-num high-num h k)
 
   lat-stays : line.grown i (plain x) ≡ i
   unfolding line.grown
   lat-stays =
       simp (
         lat-filled,
-        plain-lt x (i .lo) lat-num low-num ∙ rising (i .lo) x low-num lat-num h,
-        lt-plain (i .hi) x high-num lat-num ∙ rising x (i .hi) lat-num high-num k,
+        plain-lt x (i .lo) lat-num low-num ∙ le-no (i .lo) x low-num lat-num h,
+        lt-plain (i .hi) x high-num lat-num ∙ le-no x (i .hi) lat-num high-num k,
       )
 
 -- ---- the longitudes
@@ -107,7 +95,7 @@ module _ (i : Circle) (x : Float) (v : LngValid i) (f : fits binary64 x ≡ true
       go false false e d k = c e (and-l _ _ k) (and-r (le NEG-PI x) _ k)
 
   lng-num : Num x ≡ true
-  lng-num = by-way (Num x ≡ true) (λ e a b. above-num (i .lo) x f a) (λ e a b. above-num (i .lo) x f a) (λ e a b. above-num NEG-PI x f a)
+  lng-num = by-way (Num x ≡ true) (λ e a b. num-r (i .lo) x f a) (λ e a b. num-r (i .lo) x f a) (λ e a b. num-r NEG-PI x f a)
 
   lo-on : (le NEG-PI (i .lo) ≡ true) × (le (i .lo) PI ≡ true)
   unfolding onCircle
@@ -139,7 +127,7 @@ module _ (i : Circle) (x : Float) (v : LngValid i) (f : fits binary64 x ≡ true
     over y d k = simp (not-le (i .lo) (i .hi) (lo-num v) (hi-num v) d, e, k)
 
     between : (y : Float) → le (i .lo) (i .hi) ≡ true → le (i .lo) y ≡ true → le y (i .hi) ≡ true → lngHolds i y false ≡ true
-    between y d a b = simp (rising (i .lo) (i .hi) (lo-num v) (hi-num v) d, a, b)
+    between y d a b = simp (le-no (i .lo) (i .hi) (lo-num v) (hi-num v) d, a, b)
 
     -- where -PI is on the arc, so is PI: an arc that rises from -PI is FULL
     full-east : eq x NEG-PI ≡ true → le (i .lo) x ≡ true → le PI (i .hi) ≡ true

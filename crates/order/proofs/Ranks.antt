@@ -110,6 +110,10 @@ and-r false b h = absurd (false≢true h)
 pub and-of : {a b : Bool} → a ≡ true → b ≡ true → a && b ≡ true
 and-of {a} {b} p q = ap (λ (t : Bool). t && b) p ∙ q
 
+pub and-off : (a b : Bool) → b ≡ false → a && b ≡ false
+and-off true b h = h
+and-off false b h = refl
+
 pub all-at : (n : ℕ) (P : ℕ → Bool) → all n P ≡ true → (k : ℕ) → k < n → P k ≡ true
 unfolding all
 all-at zero P h k b = absurd (omega arith)

@@ -1,13 +1,13 @@
 -- Pieces at the front stay as they are: a piece that ends at b or before it lies in an arc that leads over the seam to b or a later end, and does not hold
 -- the arc's western end. So the arc clips only the pieces after the front. Assumes nothing.
 use mathlib.Core.Path.{_≡_, refl, sym, ap, _∙_}
-use mathlib.Core.Bool.{Bool, true, false, not, _&&_, _||_, cond, false≢true}
+use mathlib.Core.Bool.{Bool, true, false, not, _&&_, _||_, cond}
 use mathlib.Core.List.{List, [], _∷_, _++_, append-nil}
-use lib.Ieee.{Float, nan, inf, fin, binary64, fits, isNan, lt, le, eq}
+use lib.Ieee.{Float, binary64, lt, le, eq}
 use Rattle.order.specs.Key.{Num}
 use Rattle.order.proofs.Keys.{lt-key, le-key, eq-key}
-use Rattle.order.proofs.Ranks.{and-l, and-r, and-of, or-of-r}
-use Rattle.order.proofs.Facts.{tests, le-trans, lt-le, lt-not-eq}
+use Rattle.order.proofs.Ranks.{and-l, and-r, and-of, and-off, or-of-r}
+use Rattle.order.proofs.Facts.{tests, le-trans, lt-le, num-l, num-r, le-no, lt-not-eq}
 use Rattle.consts.specs.Constants.{PI, NEG-PI}
 use Rattle.s1.specs.declared.interval.Interval.{Interval}
 use Rattle.s1.specs.Circle.{ends, full, empty}
@@ -18,25 +18,8 @@ use Rattle.region.specs.Clipping.{someHolds, before, sooner, insert, cut
 use Rattle.region.specs.Sweep.{settles, Settled, spares, Spared}
 use Rattle.region.proofs.Turns.{step-rest, clip-cut}
 
--- ---- the order of doubles: what is compared is no NaN
-pub num-l : (x y : Float) → fits binary64 x ≡ true → le x y ≡ true → Num x ≡ true
-unfolding le lt eq isNan
-num-l nan y f h = absurd (false≢true h)
-num-l (inf s) y f h = and-of f refl
-num-l (fin s m e) y f h = and-of f refl
-
-pub num-r : (x y : Float) → fits binary64 y ≡ true → le x y ≡ true → Num y ≡ true
-unfolding le lt eq isNan
-num-r nan nan f h = absurd (false≢true h)
-num-r (inf s) nan f h = absurd (false≢true h)
-num-r (fin s m e) nan f h = absurd (false≢true h)
-num-r x (inf s) f h = and-of f refl
-num-r x (fin s m e) f h = and-of f refl
-
+-- ---- the order of doubles
 module _ (x y : Float) (nx : Num x ≡ true) (ny : Num y ≡ true) where
-  pub le-no : le x y ≡ true → lt y x ≡ false
-  le-no h = simp (lt-key binary64) (omega (tests, simp (le-key binary64) at h))
-
   pub lt-no : lt x y ≡ true → le y x ≡ false
   lt-no h = simp (le-key binary64) (omega (tests, simp (lt-key binary64) at h))
 
@@ -49,10 +32,6 @@ module _ (x y z : Float) (nx : Num x ≡ true) (ny : Num y ≡ true) (nz : Num z
 
   pub le-lt : le x y ≡ true → lt y z ≡ true → lt x z ≡ true
   le-lt h k = simp (lt-key binary64) (omega (tests, simp (le-key binary64) at h, simp (lt-key binary64) at k))
-
-pub and-off : (s t : Bool) → t ≡ false → s && t ≡ false
-and-off true t h = h
-and-off false t h = refl
 
 -- ---- what an interval holds, and which end is met first, by the tests' outcomes
 pub holds-is : (x : Interval) (p : Float) (t : Bool) → lt (x .hi) (x .lo) ≡ t → holds x p false ≡ cond t ((le (x .lo) p || le p (x .hi)) && not (empty x)) (le (x .lo) p && le p (x .hi))

@@ -11,8 +11,8 @@ use lib.Seq.{take-suc-set}
 use lib.Ieee.{Float, nan, binary64, fits, lt, le, eq}
 use Rattle.order.specs.Key.{Num}
 use Rattle.order.specs.Choice.{smaller, larger}
-use Rattle.order.proofs.Ranks.{and-l, and-r, and-of, or-of-l, or-of-r}
-use Rattle.order.proofs.Facts.{le-refl, lt-le, lt-not-eq, not-lt}
+use Rattle.order.proofs.Ranks.{and-l, and-r, and-of, and-off, or-of-l, or-of-r}
+use Rattle.order.proofs.Facts.{le-refl, lt-le, num-l, num-r, le-no, lt-not-eq, not-lt}
 use Rattle.consts.specs.Constants.{PI, NEG-PI}
 use Rattle.s1.specs.declared.interval.Interval.{Interval}
 use Rattle.s1.specs.Circle.{ends, full, empty}
@@ -23,7 +23,7 @@ use Rattle.region.specs.Clipping.{someHolds, before, sooner, insert, cut
 use Rattle.region.specs.Arrays.{zip}
 use Rattle.region.specs.Sweep.{settles, Settled, Spared, passes, Passed, parted, closed, IsSwept, IsClosed, Skipped, Left}
 use Rattle.region.proofs.Turns.{zip-length, zip-set, step-first, clip-open, clip-cut}
-use Rattle.region.proofs.Fronts.{num-l, num-r, le-no, lt-no, lt-ne, lt-le-lt, le-lt, and-off, holds-is, before-is, inverted, lo-under, num-hi, num-lo, arc-some, all-still, step-front, step-settled, all-append}
+use Rattle.region.proofs.Fronts.{lt-no, lt-ne, lt-le-lt, le-lt, holds-is, before-is, inverted, lo-under, num-hi, num-lo, arc-some, all-still, step-front, step-settled, all-append}
 use Rattle.region.proofs.Many.{clipped-turn}
 
 -- ---- what is used of a piece that goes on past the gap, whether it leads over the seam or not

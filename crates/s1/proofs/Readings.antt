@@ -2,10 +2,10 @@
 -- which changes no place that they hold. Assumes nothing.
 use mathlib.Core.Path.{_≡_, refl}
 use mathlib.Core.Bool.{true, _&&_}
-use lib.Ieee.{Float, nan, inf, fin, binary64, ofBits, lt, le, eq, fits, isNan}
+use lib.Ieee.{Float, binary64, ofBits, lt, le, fits, isNan}
 use Rattle.order.specs.Key.{Num}
 use Rattle.order.proofs.Ranks.{and-l, and-r, and-of}
-use Rattle.order.proofs.Facts.{lt-le, lt-not-eq}
+use Rattle.order.proofs.Facts.{lt-le, num-r, lt-not-eq}
 use Rattle.consts.specs.Constants.{PI, NEG-PI}
 use Rattle.consts.specs.Reading.{inReach}
 use Rattle.consts.proofs.Remainders.{pi-in-reach}
@@ -15,10 +15,7 @@ use Rattle.s1.specs.Reading.{usual, onCircle}
 
 -- a double from -PI on is a number
 pub num-of : (x : Float) → fits binary64 x ≡ true → le NEG-PI x ≡ true → Num x ≡ true
-unfolding le lt eq ofBits isNan fits
-num-of nan f h = h
-num-of (inf s) f h = refl
-num-of (fin s m e) f h = and-of f refl
+num-of x f h = num-r NEG-PI x f h
 
 -- a point of the circle is in reach
 pub circle-reach : (p : Float) → fits binary64 p ≡ true → onCircle p ≡ true → inReach p ≡ true

@@ -4,11 +4,10 @@ use mathlib.Core.Path.{_≡_, refl, sym, _∙_}
 use mathlib.Core.Bool.{Bool, true, false, _&&_, cond, false≢true}
 use Prim.Native.Nat.{ℕ}
 use lib.Dec.{eqb}
-use lib.Ieee.{Float, nan, inf, fin, binary64, ofBits, fits, isNan, lt, le, eq}
+use lib.Ieee.{Float, binary64, ofBits, fits, lt, le, eq}
 use Rattle.order.specs.Key.{Num, Real}
-use Rattle.order.proofs.Keys.{lt-key, le-key}
-use Rattle.order.proofs.Ranks.{and-l, and-r, and-of}
-use Rattle.order.proofs.Facts.{tests, le-trans, lt-le, lt-not-eq}
+use Rattle.order.proofs.Ranks.{and-l, and-r, and-of, and-off}
+use Rattle.order.proofs.Facts.{le-trans, lt-le, num-l, num-r, le-no, lt-not-eq}
 use Rattle.order.proofs.Bounds.{Between, between, widen}
 use Rattle.order.proofs.Monotone.{real-num}
 use Rattle.consts.specs.Constants.{PI, NEG-PI}
@@ -63,25 +62,6 @@ valid-reach r f g h v k =
     and-of (and-of (and-of (latitude-reach (r .lat .lo) f a) k) (circle-reach (r .lng .lo) g (on .0))) (circle-reach (r .lng .hi) h (on .1))
 
 -- a usual rectangle is valid, with lat.hi in reach
-south-num : (x : Float) → fits binary64 x ≡ true → le SOUTH x ≡ true → Num x ≡ true
-unfolding le lt eq ofBits isNan fits
-south-num nan f h = h
-south-num (inf s) f h = refl
-south-num (fin s m e) f h = and-of f refl
-
-north-num : (x : Float) → fits binary64 x ≡ true → le x NORTH ≡ true → Num x ≡ true
-unfolding le lt eq ofBits isNan fits
-north-num nan f h = h
-north-num (inf s) f h = refl
-north-num (fin s m e) f h = and-of f refl
-
-rising : (x y : Float) → Num x ≡ true → Num y ≡ true → le x y ≡ true → lt y x ≡ false
-rising x y n m h = simp (lt-key binary64) (omega (tests, simp (le-key binary64) at h))
-
-and-off : (a b : Bool) → b ≡ false → a && b ≡ false
-and-off true b h = h
-and-off false b h = refl
-
 module _ (r : Rect) (f : fits binary64 (r .lat .lo) ≡ true) (g : fits binary64 (r .lat .hi) ≡ true) (h : fits binary64 (r .lng .lo) ≡ true) (k : fits binary64 (r .lng .hi) ≡ true) (u : usual r ≡ true) where
   usual-latitudes : (latitude (r .lat .lo) ≡ true) × (latitude (r .lat .hi) ≡ true) × (line.empty (r .lat) ≡ false)
   unfolding usual latitude line.empty
@@ -89,11 +69,11 @@ module _ (r : Rect) (f : fits binary64 (r .lat .lo) ≡ true) (g : fits binary64
       let a : le SOUTH (r .lat .lo) ≡ true = search (and-l, and-r) in
       let b : le (r .lat .lo) (r .lat .hi) ≡ true = search (and-l, and-r) in
       let c : le (r .lat .hi) NORTH ≡ true = search (and-l, and-r) in
-      let n = south-num (r .lat .lo) f a in
-      let m = north-num (r .lat .hi) g c in
+      let n = num-r SOUTH (r .lat .lo) f a in
+      let m = num-l (r .lat .hi) NORTH g c in
       let s = real-num SOUTH (poles .0) in
       let t = real-num NORTH (poles .1) in
-      (and-of a (le-trans (r .lat .lo) (r .lat .hi) NORTH n m t b c), and-of (le-trans SOUTH (r .lat .lo) (r .lat .hi) s n m a b) c, rising (r .lat .lo) (r .lat .hi) n m b)
+      (and-of a (le-trans (r .lat .lo) (r .lat .hi) NORTH n m t b c), and-of (le-trans SOUTH (r .lat .lo) (r .lat .hi) s n m a b) c, le-no (r .lat .lo) (r .lat .hi) n m b)
 
   usual-longitudes : (circle.valid (r .lng) ≡ true) × (circle.empty (r .lng) ≡ false)
   unfolding usual circle.valid circle.empty
