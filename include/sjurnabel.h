@@ -1,4 +1,6 @@
-/* Sjurnabel: intervals and latitude-longitude rectangles, proved.
+/* SPDX-License-Identifier: Apache-2.0
+ *
+ * Sjurnabel: intervals and latitude-longitude rectangles, proved.
  *
  * The one operation to know: sjurnabel_common_region lists exactly what zones have in common. Two wide zones
  * can meet at both ends; then that is two boxes, and the single box of sjurnabel_rect_intersection covers far
@@ -7,22 +9,32 @@
  * NUMBERS. Angles are radians, in doubles. Latitudes go from -PI/2 to PI/2, longitudes from -PI to PI, east
  * positive; PI is the double 3.141592653589793. Negative zero that comes in is read as zero, and an accepted
  * answer has no negative zero. A number is "in reach" if it is no NaN and of size at most 2 to the power 500.
+ * Comparisons are exact. Lengths, distances, middles, margins and radians are computed in doubles, each sum,
+ * difference, product and quotient rounded once; the remainder is exact.
  *
  * INTERVALS AND RECTANGLES are closed: their ends belong to them. A longitude interval goes east from lo to hi,
- * so lo > hi means that it crosses the 180th meridian. {-PI, PI} is the full circle, {PI, -PI} is empty. It is
- * valid if both ends are of size at most PI, lo is -PI in the full circle only, and hi is -PI in the empty one
- * only: the 180th meridian is written PI. A rectangle is valid if lat.lo is from -PI/2 to PI/2, lat.hi at most
- * PI/2, lng valid, and both lat (lat.lo > lat.hi) and lng empty or neither. The standard empty rectangle is
- * {{1, 0}, {PI, -PI}}, the full one {{-PI/2, PI/2}, {-PI, PI}}. A point is valid if its latitude is of size at
- * most PI/2 and its longitude of size at most PI; longitude -PI is the same place as PI. An interval of the line
- * (sjurnabel_line_..) is any two numbers in reach, as latitudes are; it is empty if lo > hi, and its standard
- * empty one is {1, 0}. The inside of an interval or a rectangle is it without its ends or edges: the full circle
- * has no ends, and a pole is an edge.
+ * so lo > hi means that it crosses the 180th meridian or starts there. {-PI, PI} is the full circle, {PI, -PI} is
+ * empty. It is valid if both ends are of size at most PI, lo is -PI in the full circle only, and hi is -PI in the
+ * empty one only: the 180th meridian is written PI. (An answer that is a single longitude may be -PI.) A rectangle
+ * is valid if lat.lo is from -PI/2 to PI/2, lat.hi at most PI/2, lng valid, and both lat (lat.lo > lat.hi) and lng
+ * empty or neither. The standard empty rectangle is {{1, 0}, {PI, -PI}}, the full one {{-PI/2, PI/2}, {-PI, PI}}. A
+ * point is valid if its latitude is of size at most PI/2 and its longitude of size at most PI; longitude -PI is the
+ * same place as PI. An interval of the line (sjurnabel_line_..) is any two numbers in reach, as latitudes are; it is
+ * empty if lo > hi, and its standard empty one is {1, 0}. The inside of an interval or a rectangle is it without its
+ * ends or edges: the full circle has no ends, and a pole is an edge.
  *
  * ANSWERS come by value, the refusal number first: 0, or why there is no answer (enum sjurnabel_refusal). Every
- * argument is allowed, NaN and infinity too. Nothing aborts, nothing sets errno, nothing is allocated. What
- * stands beside a refusal number is determined as well, and said with each function. The bytes between members
- * have no meaning: compare members, not memory.
+ * number is allowed, NaN and infinity too; what a pointer must be is said below. Nothing aborts, nothing sets errno,
+ * nothing is allocated. What stands beside a refusal number is determined as well, and said with each function. The
+ * bytes between members have no meaning: compare members, not memory.
+ *
+ * ENVIRONMENT. All that is said here holds where the calling thread's floating-point environment is the one that a
+ * process starts with: it rounds to nearest, subnormal numbers are neither flushed to zero nor read as zero, and
+ * every exception is masked. Flags may be raised. Each thread has its own, and may lose it to fesetround, to
+ * feenableexcept, or to a library built with fast-math, which may set flushing as it is loaded. Then, for instance,
+ * an accepted answer can have a negative zero (rounding downward), a point outside a rectangle be said to lie in it
+ * (subnormals read as zero), and a NaN in a list end the process (invalid operations not masked).
+ * sjurnabel_environment tells whether the calling thread has what is needed.
  *
  * POINTERS AND LENGTHS. A list is a pointer to doubles and how many doubles there are, not how many records:
  * four a rectangle, in the order lat.lo, lat.hi, lng.lo, lng.hi; two a point, latitude, longitude. An array z of
@@ -176,12 +188,12 @@ typedef struct sjurnabel_text {
 sjurnabel_pieces sjurnabel_common_region(const double *list, size_t list_length, double *out, size_t out_length);
 
 /* The rectangle grown by every point of the list, from the first to the last: it holds the rectangle and each
- * point, growing to the nearer side. At most 4,096 points. One bad point refuses the whole list.
+ * point. Longitudes grow as sjurnabel_circle_add says. At most 4,096 points. One bad point refuses the whole list.
  * Refusals: 5 and 3, with the rectangle as it was handed in; 1 and 2, with the standard empty one. */
 sjurnabel_rect_answer sjurnabel_grow(sjurnabel_rect a, const double *points, size_t points_length);
 
 /* The scan worker: enlarges the running box by one point, as sjurnabel_grow does, in place. A box that starts as
- * the standard empty rectangle ends as the box of the points.
+ * the standard empty rectangle ends as one that holds every point.
  * Refusals: 1, 2 (the box), 3 (the point); the box is then untouched, every bit of it. */
 sjurnabel_refused sjurnabel_scan_point(sjurnabel_rect *box, sjurnabel_latlng p);
 
@@ -198,7 +210,8 @@ sjurnabel_rect_answer sjurnabel_rect_from_latlng(sjurnabel_latlng p);
  * Refusals: 3 (the center), 4 (the size). */
 sjurnabel_rect_answer sjurnabel_rect_from_center_size(sjurnabel_latlng center, sjurnabel_latlng size);
 
-/* The least rectangle that holds both points: its longitudes go the shorter way. Refusal: 3. */
+/* A rectangle that holds both points: the latitudes between them, and the longitudes that
+ * sjurnabel_circle_from_point_pair gives. Refusal: 3. */
 sjurnabel_rect_answer sjurnabel_rect_from_point_pair(sjurnabel_latlng p, sjurnabel_latlng q);
 
 /* Whether a is valid: true under 0, and false under a refusal. Refusals: 1, 2. */
@@ -213,7 +226,7 @@ sjurnabel_yes_no sjurnabel_rect_is_full(sjurnabel_rect a);
 /* Whether a holds a single point. Refusals: 1, 2. */
 sjurnabel_yes_no sjurnabel_rect_is_point(sjurnabel_rect a);
 
-/* Whether lng.lo > lng.hi: a crosses the 180th meridian, or is empty. Refusals: 1, 2. */
+/* Whether lng.lo > lng.hi: a crosses the 180th meridian, starts there, or is empty. Refusals: 1, 2. */
 sjurnabel_yes_no sjurnabel_rect_is_inverted(sjurnabel_rect a);
 
 /* The corner of number i modulo 4: lower left, lower right, upper right, upper left. Refusals: 1, 2. */
@@ -229,7 +242,8 @@ sjurnabel_latlng_answer sjurnabel_rect_hi(sjurnabel_rect a);
  * Refusals: 1, 2. */
 sjurnabel_latlng_answer sjurnabel_rect_center(sjurnabel_rect a);
 
-/* How far the latitudes go, and the longitudes; both are negative where a is empty. Refusals: 1, 2. */
+/* How far the latitudes go, and the longitudes: sjurnabel_line_len and sjurnabel_circle_len. Both are negative where a
+ * is empty. Refusals: 1, 2. */
 sjurnabel_latlng_answer sjurnabel_rect_size(sjurnabel_rect a);
 
 /* Whether a holds every place of b. Refusals: 1, 2. */
@@ -270,7 +284,8 @@ sjurnabel_rect_answer sjurnabel_rect_union(sjurnabel_rect a, sjurnabel_rect b);
 sjurnabel_rect_answer sjurnabel_rect_intersection(sjurnabel_rect a, sjurnabel_rect b);
 
 /* a with margin.lat added on both sides of the latitudes, not beyond the poles, and margin.lng on both sides of the
- * longitudes; negative margins shrink it. Refusals: 1, 2, 4. */
+ * longitudes, as sjurnabel_circle_expanded does; negative margins shrink it. Where latitudes or longitudes are empty
+ * then, it is the standard empty rectangle. Refusals: 1, 2, 4. */
 sjurnabel_rect_answer sjurnabel_rect_expanded(sjurnabel_rect a, sjurnabel_latlng margin);
 
 /* a with all longitudes where it reaches a pole, since each longitude names the pole there; else a itself. An empty
@@ -293,7 +308,9 @@ sjurnabel_interval_answer sjurnabel_circle_new(double lo, double hi);
 /* The circle interval with the ends of a line interval, as they are. Refusals: 1; 2, it is not valid. */
 sjurnabel_interval_answer sjurnabel_circle_from_line(sjurnabel_interval l);
 
-/* The shorter way between two points; of two opposite ones it goes east from p. Refusal: 3. */
+/* From p east to q where that is at most PI by sjurnabel_circle_positive_distance, and else from q east to p; -PI is
+ * read as PI. But for rounding that is the shorter way, and of two opposite points it goes east from p.
+ * Refusal: 3. */
 sjurnabel_interval_answer sjurnabel_circle_from_point_pair(double p, double q);
 
 /* Whether a is valid: true under 0, and false under a refusal. Refusals: 1, 2. */
@@ -305,19 +322,21 @@ sjurnabel_yes_no sjurnabel_circle_is_full(sjurnabel_interval a);
 /* Whether a is empty. Refusals: 1, 2. */
 sjurnabel_yes_no sjurnabel_circle_is_empty(sjurnabel_interval a);
 
-/* Whether lo > hi: a crosses the 180th meridian, or is empty. Refusals: 1, 2. */
+/* Whether lo > hi: a crosses the 180th meridian, starts there, or is empty. Refusals: 1, 2. */
 sjurnabel_yes_no sjurnabel_circle_is_inverted(sjurnabel_interval a);
 
 /* The middle of a; of the full and the empty one it means nothing. Refusals: 1, 2. */
 sjurnabel_number sjurnabel_circle_center(sjurnabel_interval a);
 
-/* How long a is; the empty one has -1. Refusals: 1, 2. */
+/* How long a is, rounded. The empty one has -1; so has {PI, x} with x the double next to -PI, as its length rounds to
+ * 0, and some that are all but full have 2 PI. Refusals: 1, 2. */
 sjurnabel_number sjurnabel_circle_len(sjurnabel_interval a);
 
 /* The line interval with the ends of a: empty where lo > hi. Refusals: 1, 2; the line's empty one stands beside. */
 sjurnabel_interval_answer sjurnabel_circle_to_line(sjurnabel_interval a);
 
-/* As sjurnabel_circle_contains, but -PI is not taken for PI. Refusals: 1, 2, 3. */
+/* As sjurnabel_circle_contains, but -PI is not taken for PI: it says false of -PI in {x, PI}, x above -PI.
+ * Refusals: 1, 2, 3. */
 sjurnabel_yes_no sjurnabel_circle_fast_contains(sjurnabel_interval a, double p);
 
 /* Whether a holds the point p, of size at most PI. Refusals: 1, 2, 3. */
@@ -341,9 +360,12 @@ sjurnabel_yes_no sjurnabel_circle_interior_intersects(sjurnabel_interval a, sjur
 /* Whether a and b have the same ends, and so the same places. Refusals: 1, 2. */
 sjurnabel_yes_no sjurnabel_circle_eq(sjurnabel_interval a, sjurnabel_interval b);
 
-/* Whether each end of a lies within 1e-14 of that end of b. The empty one is like any that is shorter than twice
- * that, the full one like any that leaves out no more than twice that. Ends on either side of the 180th meridian
- * do not count as near. Refusals: 1, 2. */
+/* Whether a and b are the same but for an error of 1e-14. Where one is empty: whether the other is shorter than twice
+ * the error. Else, where one is full: whether the other leaves out no more than twice the error. Else: whether each
+ * end of a lies within the error of that end of b, and the lengths differ by no more than twice the error, so that
+ * {0, 0} is not like {1e-15, 0}, which is all but full. Lengths are those of sjurnabel_circle_len. Ends on either
+ * side of the 180th meridian do not count as near, but for PI and the double next to -PI, whose difference rounds to
+ * 2 PI. Refusals: 1, 2. */
 sjurnabel_yes_no sjurnabel_circle_approx_eq(sjurnabel_interval a, sjurnabel_interval b);
 
 /* The same with the error given. Refusals: 1, 2, 4. */
@@ -362,14 +384,17 @@ sjurnabel_interval_answer sjurnabel_circle_union(sjurnabel_interval a, sjurnabel
 sjurnabel_interval_answer sjurnabel_circle_intersection(sjurnabel_interval a, sjurnabel_interval b);
 
 /* a with the margin added on both sides; a negative one shrinks it. The empty interval stays empty, the full one
- * full. Refusals: 1, 2, 4. */
+ * full; what is so but for a rounding error becomes full or empty. Ends are rounded: shrunk by almost half its
+ * length, an interval may end up all but full, and {PI, x} with x the double next to -PI, whose length is said to be
+ * -1, is not held by what it is widened to with margins from PI to about 3.64. Refusals: 1, 2, 4. */
 sjurnabel_interval_answer sjurnabel_circle_expanded(sjurnabel_interval a, double margin);
 
-/* a grown by the point p, to the nearer side.
+/* a grown by the point p, to the side that is nearer by sjurnabel_circle_positive_distance; east, where the rounded
+ * distances are the same. -PI is read as PI.
  * Refusals: 1 and 2, with the empty interval; 3, with the interval as it was handed in. */
 sjurnabel_interval_answer sjurnabel_circle_add(sjurnabel_interval a, double p);
 
-/* How far it is from p east to q, from 0 to 2 PI. Refusal: 3. */
+/* How far it is from p east to q, rounded, from 0 to 2 PI; from -PI to PI it is 2 PI. Refusal: 3. */
 sjurnabel_number sjurnabel_circle_positive_distance(double p, double q);
 
 /* The middle of the rest of the circle, of a point the point opposite; of the full and the empty one it means
@@ -452,11 +477,24 @@ sjurnabel_number sjurnabel_line_clamp_point(sjurnabel_interval a, double p);
  * Refusal: 1. */
 sjurnabel_distance sjurnabel_line_directed_hausdorff_distance(sjurnabel_interval a, sjurnabel_interval b);
 
+/* ---- the floating-point environment ---- */
+
+/* What the calling thread's environment lacks of what ENVIRONMENT says: 0 where it lacks nothing. */
+enum sjurnabel_environment_fault {
+    SJURNABEL_ROUNDING = 1, /* it rounds otherwise than to nearest */
+    SJURNABEL_FLUSHING = 2, /* subnormal results are flushed to zero, or subnormal operands are read as zero */
+    SJURNABEL_UNMASKED = 4  /* an exception is not masked */
+};
+
+/* The sum of the faults of the calling thread's environment, as it is at the call; 0 where there is none. It reads
+ * one register, MXCSR, and changes nothing. This is the one function of the library that is tested and not proved. */
+unsigned sjurnabel_environment(void);
+
 /* ---- GeoJSON: the bbox array [west, south, east, north] of RFC 7946, in degrees ---- */
 
 /* The box of a bbox array. A number is an optional minus, one to three digits without a needless leading zero and
- * an optional point with one to seven digits; JSON's spaces may stand between. -180 with 180 is the whole circle,
- * and every other -180 is read as 180.
+ * an optional point with one to seven digits; JSON's spaces may stand before and after each number and around the
+ * array. -180 with 180 is the whole circle, and every other -180 is read as 180.
  * Refusals: 8, the text is no such array; 9, a longitude beyond 180 or a latitude beyond 90 degrees, or the south
  * above the north. */
 sjurnabel_bounds_answer sjurnabel_bbox_read(const char *text, size_t text_length);

@@ -1,10 +1,12 @@
 # What C programs for x86-64 are compiled and run with. A script sets $me (its name), $root (the repository) and
 # sources this file; need_cc then sets $cc, and need_emulator sets $emulate, which is empty where programs run by
-# themselves. On x86-64 the compiler is gcc; on Arm it is Debian's cross compiler, with Debian's emulator. What is
-# missing is installed if we are root and there is apt-get, and is otherwise named. CC names another compiler,
-# EMULATOR another emulator with its words; EMULATE=1 takes the emulator on x86-64 too.
+# themselves. On x86-64 the compiler is gcc; on Arm it is Debian's cross compiler, with Debian's emulator. A compiler that
+# is missing is installed if we are root and there is apt-get, and is otherwise named; an emulator is unpacked under
+# target/. CC names another compiler, EMULATOR another emulator with its words; EMULATE=1 takes the emulator on
+# x86-64 too.
 say() { printf '%s: %s\n' "$me" "$*" >&2; }
 die() { say "$*"; exit 2; }
+. "$root/tools/debian.sh"
 
 # bring PACKAGE..: installs Debian's packages, or says that they are missing
 bring() {
@@ -39,6 +41,6 @@ need_cc() {
 need_emulator() {
     emulate=${EMULATOR:-}
     if [ -n "$emulate" ] || { [ "$(uname -m)" = x86_64 ] && [ -z "${EMULATE:-}" ]; }; then return; fi
-    command -v qemu-x86_64 >/dev/null || bring qemu-user
-    emulate='qemu-x86_64 -L /usr/x86_64-linux-gnu'
+    need_qemu
+    emulate="$qemu -L /usr/x86_64-linux-gnu"
 }

@@ -73,15 +73,21 @@ pub fn print(lines: &[Line]) {
     }
 }
 
-/// Which ratios are above what they are to be at most.
+/// Which ratios are above what they are to be at most: of instructions, and of times where there are times.
 pub fn print_limits(lines: &[Line]) {
-    let limited = lines.iter().filter_map(|l| Some((l, l.count.0 / l.count.1?, l.limit?)));
+    print_above("instructions", lines.iter().map(|l| (l, Some(l.count))));
+    if lines.iter().any(|l| l.time.is_some()) {
+        print_above("times", lines.iter().map(|l| (l, l.time)));
+    }
+}
+
+fn print_above<'a>(what: &str, costs: impl Iterator<Item = (&'a Line, Option<(f64, Option<f64>)>)>) {
+    let limited = costs.filter_map(|(line, cost)| {
+        let (ours, theirs) = cost?;
+        Some((line, ours / theirs?, line.limit?))
+    });
     let (within, above): (Vec<_>, Vec<_>) = limited.partition(|(_, ratio, limit)| ratio <= limit);
-    println!(
-        "\nRatios of instructions that were to be at most so much: {} are, {} are not.",
-        within.len(),
-        above.len()
-    );
+    println!("\nRatios of {what} that were to be at most so much: {} are, {} are not.", within.len(), above.len());
     for (line, ratio, limit) in above {
         println!("- {}, {}: {ratio:.2}, and not {limit:.1}.", line.group, line.name);
     }

@@ -1,18 +1,25 @@
+/* SPDX-License-Identifier: Apache-2.0 */
 /* Sjurnabel for SQLite: a loadable extension over the library for C (include/sjurnabel.h).
  *
  *   zone_contains(lat_lo, lat_hi, lng_lo, lng_hi, lat, lng)   whether the zone holds the point: 1 or 0
  *   zone_common(lat_lo, lat_hi, lng_lo, lng_hi)               aggregate: the common region of the zones, a blob of pieces
  *   zone_pieces(blob)                                         table: piece, lat_lo, lat_hi, lng_lo, lng_hi
+ *   zone_ranges(blob)                                         the same, with lng_lo <= lng_hi: for comparisons, by an index
  *   zone_intersection_box(zone, zone)                         eight numbers: one box that holds what both share, a blob
  *
  * A zone is four numbers in radians, as the header says; a blob of pieces is 32 bytes a piece, the same four numbers as
  * doubles, so that no bit is lost on the way. NULL in a scalar function's argument answers NULL; the aggregate passes over a
- * zone with a NULL, and answers NULL where no zone is left. A refusal of the library is an SQL error that names its number.
+ * zone with a NULL, and answers NULL where no zone is left. A refusal of the library is an SQL error that names its number, and
+ * so is a blob that is no common region.
  */
+#include <math.h>
 #include <sjurnabel.h>
 #include <sqlite3ext.h>
 #include <string.h>
 SQLITE_EXTENSION_INIT1
+
+/* the library's PI: the 180th meridian */
+static const double pi = 0x1.921fb54442d18p+1;
 
 /* a piece in a blob: that is the layout of the record */
 _Static_assert(sizeof(sjurnabel_rect) == 4 * sizeof(double), "a rectangle is four doubles");
@@ -113,34 +120,91 @@ static void zone_common_final(sqlite3_context *ctx) {
     fail(ctx, refusal_text(found.refusal));
 }
 
-/* ---- the table of pieces ---- */
+/* ---- what a blob must be ---- */
+
+/* Why the piece with this number, from 1, can stand in no region, or null where it can: it is not valid, it is empty, or it has
+ * a negative zero, which the library never writes, so that equal regions are equal blobs. */
+static char *no_piece(sjurnabel_rect p, int number) {
+    const int refusal = sjurnabel_rect_is_valid(p).refusal;
+    if (refusal) return refusal_text(refusal);
+    if (sjurnabel_rect_is_empty(p).value) return sqlite3_mprintf("sjurnabel: no common region: piece %d is empty", number);
+    const double x[4] = {p.lat.lo, p.lat.hi, p.lng.lo, p.lng.hi};
+    for (int i = 0; i < 4; i++)
+        if (x[i] == 0 && signbit(x[i])) return sqlite3_mprintf("sjurnabel: no common region: piece %d has a negative zero", number);
+    return 0;
+}
+
+/* Why these pieces are no common region, or null where they are one. Those of a region have the same latitudes, their western
+ * edges rise, and no two share a place. It is enough to look at neighbours, the last and the first being such: a piece that
+ * reaches beyond the next one holds its western edge. And nothing else is needed: the zones that each leave out the gap between
+ * two neighbours have just these pieces in common. */
+static char *no_region(const sjurnabel_rect *piece, int count) {
+    for (int i = 0; i < count; i++) {
+        char *why = no_piece(piece[i], i + 1);
+        if (why) return why;
+        if (i == 0) continue;
+        if (piece[i].lat.lo != piece[0].lat.lo || piece[i].lat.hi != piece[0].lat.hi)
+            return sqlite3_mprintf("sjurnabel: no common region: piece %d has other latitudes than piece 1", i + 1);
+        if (piece[i].lng.lo <= piece[i - 1].lng.lo)
+            return sqlite3_mprintf("sjurnabel: no common region: piece %d does not start east of piece %d", i + 1, i);
+        if (sjurnabel_rect_intersects(piece[i - 1], piece[i]).value)
+            return sqlite3_mprintf("sjurnabel: no common region: pieces %d and %d share a place", i, i + 1);
+    }
+    if (count > 1 && sjurnabel_rect_intersects(piece[count - 1], piece[0]).value)
+        return sqlite3_mprintf("sjurnabel: no common region: pieces %d and 1 share a place", count);
+    return 0;
+}
+
+/* ---- the tables of pieces and of ranges ---- */
 
 enum { PIECE, LAT_LO, LAT_HI, LNG_LO, LNG_HI, ZONE_BLOB };
 
+typedef struct table {
+    sqlite3_vtab base;
+    const char *name; /* zone_pieces or zone_ranges */
+    int ranges;       /* whether it is zone_ranges */
+} table;
+
+/* The rows of zone_pieces are the pieces. Those of zone_ranges are what the pieces hold of the numbers from -PI to PI, as ranges
+ * that share no number. -PI and PI are one place, and only the last piece can hold it: then what it holds from -PI on is a row by
+ * itself, the first one. The full circle is one range. */
 typedef struct cursor {
     sqlite3_vtab_cursor base;
-    sqlite3_value *blob; /* a copy of the argument, or null where there are no rows */
-    sqlite3_int64 at, count;
+    int at, count; /* the row, and how many pieces there are */
+    int split;     /* 1 where the first row is a part of the last piece, otherwise 0 */
+    sjurnabel_rect piece[SJURNABEL_MOST_RECTS];
 } cursor;
 
-static int pieces_connect(sqlite3 *db, void *aux, int argc, const char *const *argv, sqlite3_vtab **table, char **error) {
-    (void)aux, (void)argc, (void)argv, (void)error;
+/* The columns have no type: they are then compared with a column of the user's in the order of that column's index. */
+static int table_connect(sqlite3 *db, void *name, int argc, const char *const *argv, sqlite3_vtab **out, char **error) {
+    (void)argc, (void)argv, (void)error;
     int rc = sqlite3_declare_vtab(db, "CREATE TABLE x(piece, lat_lo, lat_hi, lng_lo, lng_hi, zone_blob HIDDEN)");
     if (rc) return rc;
     sqlite3_vtab_config(db, SQLITE_VTAB_INNOCUOUS);
-    *table = sqlite3_malloc64(sizeof **table);
-    if (!*table) return SQLITE_NOMEM;
-    memset(*table, 0, sizeof **table);
+    table *t = sqlite3_malloc64(sizeof *t);
+    if (!t) return SQLITE_NOMEM;
+    memset(t, 0, sizeof *t);
+    t->name = name;
+    t->ranges = !strcmp(name, "zone_ranges");
+    *out = &t->base;
     return SQLITE_OK;
 }
 
-static int pieces_disconnect(sqlite3_vtab *table) {
-    sqlite3_free(table);
+static int table_disconnect(sqlite3_vtab *base) {
+    sqlite3_free(base);
     return SQLITE_OK;
 }
 
-/* The argument arrives as the constraint zone_blob = .., and must be known before the table is read. */
-static int pieces_best_index(sqlite3_vtab *table, sqlite3_index_info *info) {
+/* makes `text` the table's error */
+static int table_fail(sqlite3_vtab *base, char *text) {
+    sqlite3_free(base->zErrMsg);
+    base->zErrMsg = text;
+    return text ? SQLITE_ERROR : SQLITE_NOMEM;
+}
+
+/* The argument arrives as the constraint zone_blob = .., and must be known before the table is read. A region has few pieces:
+ * that is said, so that it is the outer loop of a join with a table of points. */
+static int table_best_index(sqlite3_vtab *base, sqlite3_index_info *info) {
     int seen = 0;
     for (int i = 0; i < info->nConstraint; i++) {
         const struct sqlite3_index_constraint *c = &info->aConstraint[i];
@@ -154,13 +218,11 @@ static int pieces_best_index(sqlite3_vtab *table, sqlite3_index_info *info) {
         return SQLITE_OK;
     }
     if (seen) return SQLITE_CONSTRAINT;
-    sqlite3_free(table->zErrMsg);
-    table->zErrMsg = sqlite3_mprintf("sjurnabel: zone_pieces needs an argument, the blob of zone_common");
-    return SQLITE_ERROR;
+    return table_fail(base, sqlite3_mprintf("sjurnabel: %s needs an argument, the blob of zone_common", ((table *)base)->name));
 }
 
-static int pieces_open(sqlite3_vtab *table, sqlite3_vtab_cursor **out) {
-    (void)table;
+static int table_open(sqlite3_vtab *base, sqlite3_vtab_cursor **out) {
+    (void)base;
     cursor *c = sqlite3_malloc64(sizeof *c);
     if (!c) return SQLITE_NOMEM;
     memset(c, 0, sizeof *c);
@@ -168,75 +230,84 @@ static int pieces_open(sqlite3_vtab *table, sqlite3_vtab_cursor **out) {
     return SQLITE_OK;
 }
 
-static int pieces_close(sqlite3_vtab_cursor *base) {
-    cursor *c = (cursor *)base;
-    sqlite3_value_free(c->blob);
-    sqlite3_free(c);
+static int table_close(sqlite3_vtab_cursor *base) {
+    sqlite3_free(base);
     return SQLITE_OK;
 }
 
-static int pieces_filter(sqlite3_vtab_cursor *base, int number, const char *text, int argc, sqlite3_value **argv) {
+static int table_filter(sqlite3_vtab_cursor *base, int number, const char *text, int argc, sqlite3_value **argv) {
     (void)number, (void)text, (void)argc;
     cursor *c = (cursor *)base;
-    sqlite3_value_free(c->blob);
-    c->blob = 0;
-    c->at = c->count = 0;
-    const int type = sqlite3_value_type(argv[0]), bytes = sqlite3_value_bytes(argv[0]);
+    const table *t = (table *)base->pVtab;
+    c->at = c->count = c->split = 0;
+    const int type = sqlite3_value_type(argv[0]);
     if (type == SQLITE_NULL) return SQLITE_OK;
-    char *error = 0;
-    if (type != SQLITE_BLOB) error = sqlite3_mprintf("sjurnabel: zone_pieces takes the blob of zone_common");
-    else if (bytes % sizeof(sjurnabel_rect) || bytes / sizeof(sjurnabel_rect) > SJURNABEL_MOST_RECTS)
-        error = refusal_text(SJURNABEL_BAD_LIST);
-    else {
-        c->blob = sqlite3_value_dup(argv[0]);
-        if (!c->blob) return SQLITE_NOMEM;
-        c->count = bytes / sizeof(sjurnabel_rect);
-        return SQLITE_OK;
-    }
-    sqlite3_free(base->pVtab->zErrMsg);
-    base->pVtab->zErrMsg = error;
-    return SQLITE_ERROR;
+    if (type != SQLITE_BLOB)
+        return table_fail(base->pVtab, sqlite3_mprintf("sjurnabel: %s takes the blob of zone_common", t->name));
+    const int bytes = sqlite3_value_bytes(argv[0]), count = bytes / (int)sizeof *c->piece;
+    if (bytes % sizeof *c->piece || count > SJURNABEL_MOST_RECTS) return table_fail(base->pVtab, refusal_text(SJURNABEL_BAD_LIST));
+    if (!count) return SQLITE_OK;
+    memcpy(c->piece, sqlite3_value_blob(argv[0]), bytes);
+    char *why = no_region(c->piece, count);
+    if (why) return table_fail(base->pVtab, why);
+    c->count = count;
+    const sjurnabel_interval last = c->piece[count - 1].lng;
+    c->split = t->ranges && last.lo != -pi && (last.lo > last.hi || last.hi == pi);
+    return SQLITE_OK;
 }
 
-static int pieces_next(sqlite3_vtab_cursor *base) {
+static int table_next(sqlite3_vtab_cursor *base) {
     ((cursor *)base)->at++;
     return SQLITE_OK;
 }
 
-static int pieces_eof(sqlite3_vtab_cursor *base) {
+static int table_eof(sqlite3_vtab_cursor *base) {
     const cursor *c = (cursor *)base;
-    return c->at >= c->count;
+    return c->at >= c->count + c->split;
 }
 
-static int pieces_column(sqlite3_vtab_cursor *base, sqlite3_context *ctx, int column) {
+/* the index of the piece that the row is, or is a part of */
+static int row_piece(const cursor *c) { return c->at < c->split ? c->count - 1 : c->at - c->split; }
+
+static sjurnabel_rect row_rect(const cursor *c) {
+    sjurnabel_rect r = c->piece[row_piece(c)];
+    const int crosses = r.lng.lo > r.lng.hi;
+    if (c->at < c->split) r.lng = (sjurnabel_interval){-pi, crosses ? r.lng.hi : -pi};
+    else if (c->split && crosses) r.lng.hi = pi;
+    return r;
+}
+
+static int table_column(sqlite3_vtab_cursor *base, sqlite3_context *ctx, int column) {
     const cursor *c = (cursor *)base;
-    if (column == PIECE) sqlite3_result_int64(ctx, c->at + 1);
-    else if (column == ZONE_BLOB) sqlite3_result_value(ctx, c->blob);
-    else {
-        double x[4];
-        memcpy(x, (const char *)sqlite3_value_blob(c->blob) + c->at * sizeof x, sizeof x);
-        sqlite3_result_double(ctx, x[column - LAT_LO]);
+    const sjurnabel_rect r = row_rect(c);
+    switch (column) {
+    case PIECE: sqlite3_result_int(ctx, row_piece(c) + 1); break;
+    case LAT_LO: sqlite3_result_double(ctx, r.lat.lo); break;
+    case LAT_HI: sqlite3_result_double(ctx, r.lat.hi); break;
+    case LNG_LO: sqlite3_result_double(ctx, r.lng.lo); break;
+    case LNG_HI: sqlite3_result_double(ctx, r.lng.hi); break;
+    default: sqlite3_result_blob64(ctx, c->piece, c->count * sizeof *c->piece, SQLITE_TRANSIENT);
     }
     return SQLITE_OK;
 }
 
-static int pieces_rowid(sqlite3_vtab_cursor *base, sqlite3_int64 *id) {
+static int table_rowid(sqlite3_vtab_cursor *base, sqlite3_int64 *id) {
     *id = ((cursor *)base)->at + 1;
     return SQLITE_OK;
 }
 
-/* no xCreate: the table is there by its name, and no other can be made of it */
-static sqlite3_module pieces = {
-    .xConnect = pieces_connect,
-    .xBestIndex = pieces_best_index,
-    .xDisconnect = pieces_disconnect,
-    .xOpen = pieces_open,
-    .xClose = pieces_close,
-    .xFilter = pieces_filter,
-    .xNext = pieces_next,
-    .xEof = pieces_eof,
-    .xColumn = pieces_column,
-    .xRowid = pieces_rowid,
+/* no xCreate: the tables are there by their names, and no others can be made of them */
+static sqlite3_module tables = {
+    .xConnect = table_connect,
+    .xBestIndex = table_best_index,
+    .xDisconnect = table_disconnect,
+    .xOpen = table_open,
+    .xClose = table_close,
+    .xFilter = table_filter,
+    .xNext = table_next,
+    .xEof = table_eof,
+    .xColumn = table_column,
+    .xRowid = table_rowid,
 };
 
 /* ---- loading ---- */
@@ -250,6 +321,7 @@ __attribute__((visibility("default"))) int sqlite3_sjurnabel_init(sqlite3 *db, c
     int rc = sqlite3_create_function(db, "zone_contains", 6, flags, 0, zone_contains, 0, 0);
     if (!rc) rc = sqlite3_create_function(db, "zone_intersection_box", 8, flags, 0, zone_intersection_box, 0, 0);
     if (!rc) rc = sqlite3_create_function(db, "zone_common", 4, flags, 0, 0, zone_common_step, zone_common_final);
-    if (!rc) rc = sqlite3_create_module(db, "zone_pieces", &pieces, 0);
+    if (!rc) rc = sqlite3_create_module(db, "zone_pieces", &tables, "zone_pieces");
+    if (!rc) rc = sqlite3_create_module(db, "zone_ranges", &tables, "zone_ranges");
     return rc;
 }

@@ -3,6 +3,7 @@
 //! reference over whole numbers (`boxes/region.rs`): no degree is ever a double here, so an edge that the
 //! program rounded would show.
 
+pub mod cases;
 pub mod draw;
 mod known;
 pub mod region;
@@ -10,7 +11,7 @@ pub mod region;
 use crate::bbox::{self, text, Bounds};
 use crate::common::MOST_RECTS;
 use crate::programs::{self, Program};
-use crate::refusals::{BAD_LENGTH, BAD_RECORD};
+use crate::refusals::{BAD_LENGTH, BAD_RECORD, BAD_TEXT};
 
 /// The most lines, and the most bytes of an input.
 pub const MOST_LINES: usize = MOST_RECTS;
@@ -46,17 +47,20 @@ pub fn answer(input: &[u8]) -> String {
     }
 }
 
-/// The same where standard input cannot be read: whatever was to come is missing, and no input at all
-/// would be the whole globe.
+/// The same where standard input cannot be read: whatever was to come is missing.
 pub fn answer_unread() -> String {
     format!("refused {BAD_RECORD}\n")
 }
 
-/// The boxes of the lines, or what refuses the input. An input of too many bytes is not looked at.
+/// The boxes of the lines, or what refuses the input. No input at all is refused: a command that failed
+/// must not select the whole globe. An input of too many bytes is not looked at.
 pub fn boxes(input: &[u8]) -> Result<Vec<Bounds>, String> {
     let too_long = || format!("refused {BAD_LENGTH}\n");
     if input.len() > MOST_BYTES {
         return Err(too_long());
+    }
+    if input.is_empty() {
+        return Err(format!("refused {BAD_TEXT}\n"));
     }
     let mut boxes = Vec::new();
     for line in input.split_inclusive(|byte| *byte == b'\n') {

@@ -16,10 +16,11 @@ use crate::refusals;
 use crate::rng::Rng;
 use crate::streams;
 
-/// How many remainders, pairs of circle intervals, pairs of rectangles, lists of rectangles, lists of
-/// points, streams, questions of validity, texts, boxes written and read, boxes whose text is shortened,
-/// boxes in radians, and inputs of `boxes`.
+/// How many remainders, line intervals, pairs of circle intervals, pairs of rectangles, lists of
+/// rectangles, lists of points, streams, questions of validity, texts, boxes written and read, boxes whose
+/// text is shortened, boxes in radians, and inputs of `boxes`.
 const REMAINDERS: usize = 1_000_000;
+const LINES: usize = 500_000;
 const CIRCLE_PAIRS: usize = 200_000;
 const RECT_PAIRS: usize = 100_000;
 const LISTS: usize = 50_000;
@@ -36,13 +37,16 @@ const INPUTS: usize = 5_000;
 pub fn run() -> usize {
     let worked = worked();
     let (streams, inputs) = (examples::streams::worked(), examples::boxes::worked());
+    let records = examples::streams::worked_records();
     let (texts, misread) = bbox::checks::readings(TEXTS);
     [
         ("worked answers", worked.len(), worked_answers(&worked)),
         ("worked streams", streams.len(), worked_inputs(&streams, streams::answer)),
+        ("worked records", records.len(), worked_inputs(&records, streams::record_read)),
         ("worked inputs of boxes", inputs.len(), worked_inputs(&inputs, boxes::answer)),
         ("exact remainders", REMAINDERS, exact_remainders()),
         ("tests of validity against the crate's", VALIDITY_TESTS, validity_tests()),
+        ("line intervals by laws that are not proved", LINES, places::line::faults(LINES)),
         ("pairs of circle intervals against places", CIRCLE_PAIRS, places::circle::faults(CIRCLE_PAIRS)),
         ("pairs of rectangles against places", RECT_PAIRS, places::rect::faults(RECT_PAIRS)),
         ("lists of rectangles against places", LISTS, places::common::faults(LISTS)),

@@ -1,7 +1,8 @@
 //! The questions `growth R | ..` and `scan R | ..`: a rectangle grown by a list of points. `growth` takes
 //! the whole list or refuses it whole. `scan` hands the points one by one to the scan worker, which keeps
-//! one running box: a refused point leaves the box as it is, and the next one is tried. The numbers of
-//! an accepted answer come from the crate's own growth by one point (`rect.add`), first point to last.
+//! one running box: a refused point leaves the box as it is, and the next one is tried. Both look at the
+//! length first, then at R. The numbers of an accepted answer come from the crate's own growth by one point
+//! (`rect.add`), first point to last.
 
 pub mod arms;
 pub mod stored;
@@ -130,11 +131,16 @@ fn by_the_crate(start: Rect, point: [f64; 2]) -> Rect {
     rect((one_point().call)(&[&start[..], &point].concat()))
 }
 
-/// The running box stores the result of an accepted point and keeps every bit at a refused one. The
-/// number is that of the last refusal.
+/// The start is read first, by no point too: 1 and 2 answer the standard empty one. Then the running box
+/// stores the result of an accepted point and keeps every bit at a refused one. The number is that of the
+/// last refusal. An answer under 0 has no negative zero; a refusal hands the running box back with its bits.
 fn scanned(asked: &Asked) -> (u8, Rect) {
     if has_bad_length(asked) {
         return (BAD_LENGTH, asked.start);
+    }
+    let of_start = fault(Role::Rect, &asked.start);
+    if of_start != ACCEPTED {
+        return (of_start, EMPTY);
     }
     let mut last = ACCEPTED;
     let mut running = asked.start;
@@ -145,7 +151,7 @@ fn scanned(asked: &Asked) -> (u8, Rect) {
             number => last = number,
         }
     }
-    (last, running)
+    (last, if last == ACCEPTED { plain(running) } else { running })
 }
 
 fn rect(value: Value) -> Rect {

@@ -32,7 +32,7 @@ use std::process::ExitCode;
 use programs::{Program, Tried};
 
 const USAGE: &str = "usage: oracle answer | questions COUNT SEED | tally [--arms] QUESTIONS JUDGE OTHER
-       | vectors | edges DIR | check | cases | stream-answer | streams COUNT SEED COMMAND LIMIT DIR
+       | vectors | edges DIR | check | cases [boxes] | stream-answer | streams COUNT SEED COMMAND LIMIT DIR
        | boxes-answer | boxes COUNT SEED COMMAND LIMIT DIR";
 
 fn main() -> ExitCode {
@@ -58,8 +58,8 @@ fn run(words: &[&str]) -> io::Result<u8> {
         ["vectors"] => io::stdout().write_all(&vectors::bytes()).map(|_| 0),
         ["edges", folder] => write_edges(folder).map(|_| 0),
         ["check"] => Ok(u8::from(check::run() > 0)),
-        ["stream-answer"] => program_answer(&streams::PROGRAM).map(|_| 0),
-        ["boxes-answer"] => program_answer(&boxes::PROGRAM).map(|_| 0),
+        ["stream-answer"] => program_answer(&streams::PROGRAM),
+        ["boxes-answer"] => program_answer(&boxes::PROGRAM),
         ["streams", count, seed, command, limit, folder] => {
             let tried = Tried { command, limit, folder };
             programs::run(&streams::PROGRAM, whole(count)? as usize, whole(seed)?, &tried)
@@ -69,18 +69,20 @@ fn run(words: &[&str]) -> io::Result<u8> {
             programs::run(&boxes::PROGRAM, whole(count)? as usize, whole(seed)?, &tried)
         }
         ["cases"] => io::stdout().write_all(streams::cases::text().as_bytes()).map(|_| 0),
+        ["cases", "boxes"] => io::stdout().write_all(boxes::cases::text().as_bytes()).map(|_| 0),
         _ => Err(io::Error::other(USAGE)),
     }
 }
 
-/// What the program writes for this standard input.
-fn program_answer(program: &Program) -> io::Result<()> {
+/// Writes what the program writes for this standard input, and gives the status that `./run` ends with.
+fn program_answer(program: &Program) -> io::Result<u8> {
     let mut bytes = Vec::new();
     let text = match io::stdin().lock().read_to_end(&mut bytes) {
         Ok(_) => (program.answer)(&bytes),
         Err(_) => (program.unread)(),
     };
-    io::stdout().write_all(text.as_bytes())
+    io::stdout().write_all(text.as_bytes())?;
+    Ok(programs::status(&text))
 }
 
 fn whole(word: &str) -> io::Result<u64> {

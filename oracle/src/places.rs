@@ -4,6 +4,7 @@
 pub mod circle;
 pub mod common;
 pub mod growth;
+pub mod line;
 pub mod rect;
 
 use std::f64::consts::PI;

@@ -106,10 +106,11 @@ impl Tried<'_> {
         self.on_file(&path)
     }
 
-    /// Counts a difference and shows the first ones. The input is kept, to be tried by hand.
+    /// Counts a difference, in what is written or in the status, and shows the first ones. The input is kept,
+    /// to be tried by hand.
     fn hold(&self, counts: &mut Counts, what: &Given, expected: &str, given: Output) -> io::Result<()> {
         counts.runs += 1;
-        if given.status.success() && given.stdout == expected.as_bytes() {
+        if given.status.code() == Some(status(expected).into()) && given.stdout == expected.as_bytes() {
             return Ok(());
         }
         counts.differ += 1;
@@ -123,15 +124,20 @@ impl Tried<'_> {
         let more = if what.bytes.len() > SHOWN_BYTES { " .." } else { "" };
         println!("  {}{more}", (what.program.shown)(&what.bytes[..what.bytes.len().min(SHOWN_BYTES)]));
         match given.status.code() {
-            Some(0) => {}
+            Some(code) if code == status(expected).into() => {}
             Some(124) => println!("  the program was still running after {} seconds", self.limit),
-            Some(status) => println!("  the program ended with status {status}"),
+            Some(code) => println!("  the program ended with status {code}, and not {}", status(expected)),
             None => println!("  the program was ended by a signal"),
         }
         println!("  expected: {}", shown(expected.as_bytes()));
         println!("  got:      {}", shown(&given.stdout));
         Ok(())
     }
+}
+
+/// The status that `./run` ends with for an answer: 1 for a refusal.
+pub fn status(answer: &str) -> u8 {
+    u8::from(answer.starts_with("refused"))
 }
 
 /// Bytes as digits.

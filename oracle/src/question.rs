@@ -1,4 +1,4 @@
-//! Reading one line of the protocol into a question, and writing a question as a line.
+//! Reading one line of the protocol (docs/ASK.md) into a question, and writing a question as a line.
 
 use crate::ops::{self, Op, Role};
 

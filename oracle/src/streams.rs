@@ -60,6 +60,18 @@ pub fn answer_unread() -> String {
     format!("refused {BAD_RECORD}\n")
 }
 
+/// What the record at the start of these bytes is read as: its rectangle, negative zeros as zeros, in the
+/// words of a list of one piece, or its refusal.
+pub fn record_read(bytes: &[u8]) -> String {
+    let plain = |x: f64| if x == 0.0 { 0.0 } else { x };
+    let rect = bytes.get(..RECORD).and_then(rect_of);
+    match rect.map(|rect| (fault(Role::Rect, &rect), rect)) {
+        Some((ACCEPTED, rect)) => pieces(&[rect.map(plain)]),
+        Some((number, _)) => format!("refused {number}\n"),
+        None => format!("refused {BAD_RECORD}\n"),
+    }
+}
+
 /// The rectangles of the records, or the number of the first fault.
 fn rects(bytes: &[u8]) -> Result<Vec<Rect>, u8> {
     let mut rects = Vec::new();

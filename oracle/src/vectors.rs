@@ -17,6 +17,17 @@ const FREE: usize = 20;
 /// The seed of the stored questions. It is fixed, so that writing them anew changes nothing.
 const SEED: u64 = 1;
 
+/// PI and 2^-53: the two ways round between them round to one distance, so the longer one is answered
+/// where it goes east from the first (F16).
+const ALIKE: &[&str] = &[
+    "s1.union 400921FB54442D18 400921FB54442D18 3CA0000000000000 3CA0000000000000",
+    "s1.union 3CA0000000000000 3CA0000000000000 400921FB54442D18 400921FB54442D18",
+    "s1.add 400921FB54442D18 400921FB54442D18 3CA0000000000000",
+    "s1.add 3CA0000000000000 3CA0000000000000 400921FB54442D18",
+    "s1.from_point_pair 400921FB54442D18 3CA0000000000000",
+    "s1.from_point_pair 3CA0000000000000 400921FB54442D18",
+];
+
 /// All stored questions, without newlines.
 pub fn lines() -> Vec<Vec<u8>> {
     let mut lines = Vec::new();
@@ -28,6 +39,7 @@ pub fn lines() -> Vec<Vec<u8>> {
     for kind in beside::ALL {
         lines.extend(kind.stored(&mut Rng::new(SEED, kind.name())));
     }
+    lines.extend(ALIKE.iter().map(|line| line.as_bytes().to_vec()));
     lines.extend(long_lines());
     // The last line lacks its newline: see `bytes`.
     lines

@@ -409,6 +409,40 @@ static void circle_tested(void) {
     for (int k = 0; k < 3; k++) CHECK(says(sjurnabel_circle_approx_eq_by(a, a, errors[k]), SJURNABEL_BAD_MARGIN, false));
 }
 
+/* ---- what the header says of rounding, and of -PI ---- */
+static void rounded(void) {
+    const double tiny = of_bits(0x3CA0000000000000), least = of_bits(1); /* 2^-53 and 2^-1074 */
+    const double p = of_bits(0xC004EAB490913EB9), q = of_bits(0x3FE0DD1B0ECBB97E);
+    const sjurnabel_interval seam = {PI, PI}, wrapped = {PI, NEAR_NEG_PI};
+    /* two points: east from the first where that rounds to PI at most, even where the way back is rounded to less */
+    CHECK(is_number(sjurnabel_circle_positive_distance(p, q), 0, PI) && sjurnabel_circle_positive_distance(q, p).value < PI);
+    CHECK(gives(sjurnabel_circle_from_point_pair(p, q), 0, p, q) && gives(sjurnabel_circle_add(span(p, p), q), 0, q, p));
+    /* both ways from PI to 2^-53 round to PI, and the one taken is the longer */
+    CHECK(is_number(sjurnabel_circle_positive_distance(PI, tiny), 0, PI) && is_number(sjurnabel_circle_positive_distance(tiny, PI), 0, PI));
+    CHECK(gives(sjurnabel_circle_from_point_pair(PI, tiny), 0, PI, tiny) && gives(sjurnabel_circle_from_point_pair(tiny, PI), 0, tiny, PI));
+    CHECK(gives(sjurnabel_circle_add(seam, tiny), 0, PI, tiny) && gives(sjurnabel_circle_union(seam, span(tiny, tiny)), 0, PI, tiny));
+    CHECK(answers(sjurnabel_rect_from_point_pair(at(1, PI), at(0, tiny)), 0, rect(0, 1, PI, tiny)) && answers(sjurnabel_rect_add(rect(0, 0, PI, PI), at(0, tiny)), 0, rect(0, 0, PI, tiny)));
+    /* growth to the nearer side, and east where both are equally near */
+    CHECK(gives(sjurnabel_circle_add(span(0, 0), PI), 0, 0, PI) && gives(sjurnabel_circle_add(span(0, 0), -3), 0, -3, 0) && gives(sjurnabel_circle_add(span(1, 1), -PI), 0, 1, PI));
+    CHECK(is_number(sjurnabel_circle_positive_distance(-PI, PI), 0, 2 * PI) && is_number(sjurnabel_circle_positive_distance(PI, -PI), 0, 0));
+    /* lengths of -1 and of 2 PI */
+    CHECK(is_number(sjurnabel_circle_len(wrapped), 0, -1) && says(sjurnabel_circle_is_empty(wrapped), 0, false) && is_point(sjurnabel_rect_size(rect(0, 1, PI, NEAR_NEG_PI)), 0, 1, -1));
+    CHECK(is_number(sjurnabel_circle_len(span(0, -least)), 0, 2 * PI) && says(sjurnabel_circle_is_full(span(0, -least)), 0, false));
+    /* margins: full or empty but for a rounding error; what is shrunk to almost full; what is widened and not held */
+    CHECK(gives(sjurnabel_circle_expanded(span(0, 0), of_bits(0x400921FB54442D17)), 0, -PI, PI) && gives(sjurnabel_circle_expanded(span(0, 1), -0.5 + 1e-16), 0, PI, -PI));
+    CHECK(gives(sjurnabel_circle_expanded(span(of_bits(0x4002E9E32C698EDA), of_bits(0x3FD21ECC0C7F87E5)), of_bits(0xC000CEF67ED75E29)), 0, of_bits(0xBFFD1639FA8EDA58), of_bits(0xBFFD1639FA8EDA59)));
+    CHECK(says(sjurnabel_circle_contains_interval(sjurnabel_circle_expanded(wrapped, 3.2).value, wrapped), 0, false));
+    CHECK(says(sjurnabel_circle_contains_interval(sjurnabel_circle_expanded(wrapped, 3.1).value, wrapped), 0, true) && says(sjurnabel_circle_contains_interval(sjurnabel_circle_expanded(wrapped, 3.7).value, wrapped), 0, true));
+    /* a single longitude may be -PI */
+    CHECK(is_number(sjurnabel_circle_center(span(of_bits(0x000012688B70E62B), 0)), 0, -PI) && is_point(sjurnabel_rect_lo(FULL), 0, -HALF_PI, -PI));
+    /* the approximate test: ends and lengths; an empty one first, then a full one; the 180th meridian */
+    CHECK(says(sjurnabel_circle_approx_eq(span(0, 0), span(1e-15, 0)), 0, false) && says(sjurnabel_circle_approx_eq(span(0, 0), span(0, 1e-15)), 0, true));
+    CHECK(says(sjurnabel_circle_approx_eq(span(PI, -PI), span(1, 1 + 1e-14)), 0, true) && says(sjurnabel_circle_approx_eq(span(PI, -PI), span(1, 1 + 3e-14)), 0, false));
+    CHECK(says(sjurnabel_circle_approx_eq(span(-PI, PI), span(1e-14, 0)), 0, true) && says(sjurnabel_circle_approx_eq(span(-PI, PI), span(3e-14, 0)), 0, false));
+    CHECK(says(sjurnabel_circle_approx_eq_by(span(PI, -PI), span(-PI, PI), PI), 0, false) && says(sjurnabel_circle_approx_eq_by(span(PI, -PI), span(-PI, PI), 3.15), 0, true));
+    CHECK(says(sjurnabel_circle_approx_eq(seam, span(NEAR_NEG_PI, NEAR_NEG_PI)), 0, true) && says(sjurnabel_circle_approx_eq(seam, span(of_bits(0xC00921FB54442D16), of_bits(0xC00921FB54442D16))), 0, false));
+}
+
 /* ---- the line ---- */
 static bool is_distance(sjurnabel_distance a, int refusal, bool unbounded, double x) { return a.refusal == refusal && a.unbounded == unbounded && same(a.value, x); }
 
@@ -509,6 +543,7 @@ int main(void) {
     circle();
     circle_made();
     circle_tested();
+    rounded();
     line();
     line_refused();
     geojson();

@@ -202,13 +202,17 @@ static bool growth(const char *s) {
     return rect(sjurnabel_grow(R(0), x + 4, (size_t)n)), true;
 }
 
-/* the points one by one through the worker, with the last refusal that is not 0 */
+/* the points one by one through the worker, with the last refusal that is not 0. Before them comes the start, which growth
+ * by no point reads */
 static bool scan(const char *s) {
     long n = read_with_points(s);
     if (n < 0) return false;
     sjurnabel_rect box = R(0);
-    int refusal = n % 2 || n > 2 * SJURNABEL_MOST_POINTS ? SJURNABEL_BAD_LIST : 0;
-    for (int i = 0; refusal != SJURNABEL_BAD_LIST && i < n; i += 2) {
+    sjurnabel_rect_answer start = sjurnabel_grow(box, x + 4, 0);
+    int refusal = 0;
+    if (n % 2 || n > 2 * SJURNABEL_MOST_POINTS) return put_rect(SJURNABEL_BAD_LIST, box), true;
+    if (start.refusal || n == 0) return rect(start), true;
+    for (long i = 0; i < n; i += 2) {
         int one = sjurnabel_scan_point(&box, P(4 + i)).refusal;
         if (one) refusal = one;
     }

@@ -1,6 +1,6 @@
 // The program `ask`: one question a line on standard input, one answer a line on standard output, in
 // order. A question is an operation's name and the bit patterns of its operands, an answer the refusal
-// number and the result; a line that is no question is answered `?`.
+// number and the result; a line that is no question is answered `?`. docs/ASK.md has every question.
 //
 // This file has the stream of lines. parse.rt reads a line, a file for each layer (line.rt, circle.rt,
 // rect.rt, common.rt, points.rt, boxes.rt) has that layer's questions, and print.rt writes an answer
@@ -18,6 +18,7 @@ mod reply;
 use crate::parse::asks;
 use crate::print::ROOM;
 use crate::reply::Reply;
+use libc::STDERR_FILENO;
 use libc::STDIN_FILENO;
 use libc::STDOUT_FILENO;
 ghost use Prim.Native.Nat.{_+_, _≤_};
@@ -95,7 +96,7 @@ fn take_all(bytes: &[u8], held: usize, text: &mut [u8], out: &mut [u8]) -> usize
         i += 1;
     }
     let at = p.out;
-    io::write_all(STDOUT_FILENO, &out[..at]);
+    put(&out[..at]);
     p.text
 }
 
@@ -153,10 +154,18 @@ fn make_room(at: usize, out: &mut [u8]) -> usize
     ensures { λ r. ⌜ r + room ≤ length (now (out .exit)) ⌝ }
 {
     if at > out.len() - ROOM {
-        io::write_all(STDOUT_FILENO, &out[..at]);
+        put(&out[..at]);
         return 0;
     }
     at
+}
+
+// Writes answers. A program has no exit status: what cannot be written, as on a full disk, is told on
+// standard error.
+fn put(answers: &[u8]) {
+    if !io::write_all(STDOUT_FILENO, answers) {
+        io::write_all(STDERR_FILENO, b"ask: answers cannot be written\n");
+    }
 }
 
 // The answer to any other question, of which s is what follows the name. Apart are those whose operands

@@ -3,6 +3,7 @@
 // library's (the crate `lines`).
 use consts::BAD_LIST;
 use consts::BAD_RECORD;
+use libc::STDERR_FILENO;
 use libc::STDOUT_FILENO;
 use text::Written;
 
@@ -19,8 +20,8 @@ fn main() {
     answer(&mut bytes, &mut out);
 }
 
-// Reads the input and writes its answer. A read that failed must not pass for the end of the input,
-// where no line at all would answer the whole globe; and no more must an input be cut short.
+// Reads the input and writes its answer. A read that failed must not pass for the end of the input, where
+// the lines that were read would answer for all of them; and no more must an input be cut short.
 fn answer(bytes: &mut [u8], out: &mut [u8]) {
     let x = input::read_all(bytes);
     let n = x.count;
@@ -43,6 +44,14 @@ fn refuse(refusal: u8, out: &mut [u8]) {
 fn write(w: Written, out: &[u8]) {
     let n = w.count;
     if n <= out.len() {
-        io::write_all(STDOUT_FILENO, &out[..n]);
+        put(&out[..n]);
+    }
+}
+
+// Writes bytes to standard output. A program has no exit status: what cannot be written, as on a full
+// disk, is told on standard error.
+fn put(bytes: &[u8]) {
+    if !io::write_all(STDOUT_FILENO, bytes) {
+        io::write_all(STDERR_FILENO, b"boxes: the answer cannot be written\n");
     }
 }

@@ -33,7 +33,7 @@ pub extern "C" fn sjurnabel_circle_from_line(l: CInterval) -> CIntervalAnswer
     circle_back(Circle::from_line(line_of(l)))
 }
 
-// The shorter way between two points.
+// The shorter way between two points, but for rounding.
 #[no_mangle]
 pub extern "C" fn sjurnabel_circle_from_point_pair(p: f64, q: f64) -> CIntervalAnswer
     ensures { λ r. ⌜ r ≡ circleBack (fromPointPair p q) ⌝ }
@@ -227,7 +227,8 @@ pub extern "C" fn sjurnabel_circle_expanded(a: CInterval, margin: f64) -> CInter
     circle_back(circle_of(a).expanded(margin))
 }
 
-// The interval grown by a point, to the nearer side; a bad point hands it back as it came.
+// The interval grown by a point, to the side that is nearer by the rounded distance; a bad point hands
+// it back as it came.
 #[no_mangle]
 pub extern "C" fn sjurnabel_circle_add(a: CInterval, p: f64) -> CIntervalAnswer
     ensures { λ r. ⌜ r ≡ circleBack (add (circleOf a) p) ⌝ }

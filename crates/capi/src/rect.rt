@@ -32,7 +32,7 @@ pub extern "C" fn sjurnabel_rect_from_center_size(center: CLatLng, size: CLatLng
     rect_back(Rect::from_center_size(latlng_of(center), latlng_of(size)))
 }
 
-// The least rectangle that holds two points.
+// A rectangle that holds two points, its longitudes by the shorter way, but for rounding.
 #[no_mangle]
 pub extern "C" fn sjurnabel_rect_from_point_pair(p: CLatLng, q: CLatLng) -> CRectAnswer
     ensures { λ r. ⌜ r ≡ rectBack (fromPointPair (latLngOf p) (latLngOf q)) ⌝ }

@@ -1,10 +1,11 @@
 // The program `common`: a stream of records on standard input, the common region of its rectangles on
 // standard output. What the bytes mean and what text goes out is the library's (the crate `stream`).
 use consts::BAD_RECORD;
+use libc::STDERR_FILENO;
 use libc::STDOUT_FILENO;
 use text::Written;
 
-// 513 records: no byte after them changes an answer.
+// 513 records. No byte after them changes an answer: `settled` of crates/stream/proofs/Settled.antt.
 const LIMIT: usize = 17442;
 
 // The longest answer: `pieces 512` and 512 lines of 68 bytes.
@@ -33,6 +34,14 @@ fn answer(bytes: &mut [u8], out: &mut [u8]) {
 fn write(w: Written, out: &[u8]) {
     let n = w.count;
     if n <= out.len() {
-        io::write_all(STDOUT_FILENO, &out[..n]);
+        put(&out[..n]);
+    }
+}
+
+// Writes bytes to standard output. A program has no exit status: what cannot be written, as on a full
+// disk, is told on standard error.
+fn put(bytes: &[u8]) {
+    if !io::write_all(STDOUT_FILENO, bytes) {
+        io::write_all(STDERR_FILENO, b"common: the answer cannot be written\n");
     }
 }

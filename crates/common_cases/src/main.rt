@@ -1,11 +1,13 @@
 // The program `common_cases`: every kind of stream that the stored run of `common` leaves out, each fed to
-// the same library function; a label and the answer for each. The expected answers come from the reference
-// in `oracle/` (`oracle/cases`), which makes the same streams in the same order.
+// the same library function, and records fed to the function that reads one; a label and the answer for
+// each. The expected answers come from the reference in `oracle/` (`oracle/cases`), which makes the same
+// streams in the same order.
 //
 // make.rt has how a stream is made and an answer shown, damage.rt the streams that are refused, zones.rt
-// those that are answered.
+// those that are answered, records.rt the single records.
 mod damage;
 mod make;
+mod records;
 mod zones;
 
 use crate::make::show;
@@ -22,6 +24,9 @@ fn cases(s: &mut [u8]) {
     refused(s);
     answered(s);
     damage::first_fault(s);
+    records::zeros(s);
+    records::refused(s);
+    records::lengths(s);
 }
 
 fn damaged(s: &mut [u8]) {

@@ -11,6 +11,12 @@ pub(crate) const NEG_ONE: u64 = 0xBFF0_0000_0000_0000;
 
 pub(crate) const NAN: u64 = 0x7FF8_0000_0000_0000;
 
+pub(crate) const NEG_ZERO: u64 = 0x8000_0000_0000_0000;
+
+pub(crate) const PI: u64 = 0x4009_21FB_5444_2D18;
+
+pub(crate) const NEG_PI: u64 = 0xC009_21FB_5444_2D18;
+
 // The longest answer: `pieces 512` and 512 lines of 68 bytes.
 const ROOM: usize = 34827;
 
@@ -61,11 +67,16 @@ pub(crate) fn put_zone(s: &mut [u8], k: usize, west: u64, east: u64) {
     put_record(s, k, ZERO, ONE, west, east);
 }
 
-// Writes a case's label and its answer; the stream is the first n bytes of s.
-pub(crate) fn show(label: &[u8], s: &[u8], n: usize) {
+// Writes a case's label.
+pub(crate) fn print_label(label: &[u8]) {
     print(b"case ");
     print(label);
     print(b"\n");
+}
+
+// Writes a case's label and its answer; the stream is the first n bytes of s.
+pub(crate) fn show(label: &[u8], s: &[u8], n: usize) {
+    print_label(label);
     if n <= s.len() {
         answer(&s[..n]);
     }
@@ -94,7 +105,7 @@ fn answer(s: &[u8]) {
 }
 
 // Writes the first n bytes.
-fn print_front(s: &[u8], n: usize) {
+pub(crate) fn print_front(s: &[u8], n: usize) {
     if n <= s.len() {
         print(&s[..n]);
     }

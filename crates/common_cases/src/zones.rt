@@ -1,17 +1,14 @@
 // Streams that are answered: zeros of either sign, latitudes that do not meet, and the longitudes of
 // document 01's examples.
 use crate::make::NEG_ONE;
+use crate::make::NEG_PI;
+use crate::make::NEG_ZERO;
 use crate::make::ONE;
+use crate::make::PI;
 use crate::make::ZERO;
 use crate::make::put_record;
 use crate::make::put_zone;
 use crate::make::show;
-
-const NEG_ZERO: u64 = 0x8000_0000_0000_0000;
-
-const PI: u64 = 0x4009_21FB_5444_2D18;
-
-const NEG_PI: u64 = 0xC009_21FB_5444_2D18;
 
 // The double above -PI.
 const ABOVE_NEG_PI: u64 = 0xC009_21FB_5444_2D17;

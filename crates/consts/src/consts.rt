@@ -1,6 +1,6 @@
 // The constants and the remainder modulo 2 PI.
 //
-// The original file has no copyright lines of its own; NOTICE has the crate's licence.
+// The original file has no copyright lines of its own; NOTICE has the crate's.
 // ported from src/consts.rs of s2 0.2.0, changed: the remainder is by 2 PI alone, by comparisons and
 // not by libm's remquo, refuses what lies beyond 4 PI, and answers no negative zero; what the port
 // does not use is left behind.

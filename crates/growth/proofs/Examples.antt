@@ -16,7 +16,7 @@ use Rattle.s2.specs.Rect.{at, box, EMPTY, latitude, valid, validPoint, grown}
 use Rattle.s2.specs.Reading.{rectInReach, asRead, readOne, readPoint}
 use Rattle.s2.specs.Answers.{rectAnswer, emptyUnder, add}
 use Rattle.growth.specs.Growth.{pointsOf, wholePoints, under, firstBad, grownAll, grownFrom, grownByPoints, grownBy}
-use Rattle.growth.specs.Scan.{enlarged, enlargedAll, scannedFrom, scanned}
+use Rattle.growth.specs.Scan.{enlarged, enlargedAll, scannedFrom, handedBack, scannedByPoints, scanned}
 
 -- numbers by their bits: 0, -0, 0.5, -0.5, 1, 2, 4
 abbrev zero : Float
@@ -75,10 +75,17 @@ pub record Examples : Type 0 where
   pub leaves-bad-list : enlargedAll start (half ∷ two ∷ one ∷ four ∷ []) ≡ under 3 start
   -- points one by one: the bad one is passed over, and its number is kept
   pub scans : scanned start (half ∷ two ∷ one ∷ four ∷ half ∷ half ∷ []) ≡ under 3 (box (line.ends zero one) (circle.ends zero two))
-  pub scans-nothing : scanned start [] ≡ under 0 start
+  -- by bad points alone the start keeps its bits; by no point it is answered as it is read
+  pub scans-bad-points : scanned start (one ∷ four ∷ []) ≡ under 3 start
+  pub scans-nothing : scanned start [] ≡ rectAnswer (square zero one)
+  -- a start is read before the points, and by no point too; before it comes 5
+  pub scans-unknown : scanned unknown [] ≡ emptyUnder 1
+  pub scans-tall : scanned tall [] ≡ emptyUnder 2
+  pub scans-unknown-first : scanned unknown (one ∷ four ∷ []) ≡ emptyUnder 1
+  pub scans-half-point : scanned unknown (one ∷ []) ≡ under 5 unknown
 
 pub examples : Examples
-unfolding grownBy grownByPoints grownFrom wholePoints pointsOf firstBad firstRefusal grownAll add enlarged enlargedAll scannedFrom scanned readOne readPoint asRead rectInReach valid validPoint latitude onCircle inReach plain grown line.grown line.empty circle.grown circle.valid circle.empty fast seam distance ofBits lt le eq Ieee.add Ieee.sub
+unfolding grownBy grownByPoints grownFrom wholePoints pointsOf firstBad firstRefusal grownAll add enlarged enlargedAll scannedFrom handedBack scannedByPoints scanned readOne readPoint asRead rectInReach valid validPoint latitude onCircle inReach plain grown line.grown line.empty circle.grown circle.valid circle.empty fast seam distance ofBits lt le eq Ieee.add Ieee.sub
 examples =
     record {
       grows = refl;
@@ -94,5 +101,10 @@ examples =
       leaves-bad-box = refl;
       leaves-bad-list = refl;
       scans = refl;
+      scans-bad-points = refl;
       scans-nothing = refl;
+      scans-unknown = refl;
+      scans-tall = refl;
+      scans-unknown-first = refl;
+      scans-half-point = refl;
     }

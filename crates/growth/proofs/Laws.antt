@@ -1,5 +1,6 @@
 -- What growth by a list means: it is growth by the points one by one, first to last; which refusal comes first, and what a refusal hands back; an accepted
--- growth is valid and holds the start and each point. And what the scan worker leaves in the lent box.
+-- growth is valid and holds the start and each point. What the scan worker leaves in the lent box; and the scan by value, which is growth by the list but
+-- where a point is bad.
 -- The idea: a valid rectangle grown by a valid point is valid and has no negative zero (the crate s2), so that to read it again changes nothing, and growth
 -- on what has been read goes side by side with the public growth. Assumes nothing.
 use mathlib.Core.Path.{_≡_, refl, sym, ap, _∙_, subst}
@@ -33,7 +34,7 @@ use Rattle.s2.proofs.Zeros.{NoMinusRect, add-plain}
 use Rattle.s2.proofs.Differences.{add-out, add-not-valid}
 use Rattle.s2.proofs.Places.{point-place, add-holds, add-refused}
 use Rattle.growth.specs.Growth.{pointsOf, wholePoints, under, firstBad, grownAll, grownFrom, grownByPoints, grownBy, oneByOne, wholeOrNone}
-use Rattle.growth.specs.Scan.{enlarged, enlargedAll, scannedFrom, scanned}
+use Rattle.growth.specs.Scan.{enlarged, enlargedAll, scannedFrom, handedBack, scannedByPoints, scanned}
 use Rattle.growth.specs.Points.{Doubles, DoublePoint, All, Among, first, later}
 
 -- ---- within the limits
@@ -316,38 +317,125 @@ module _ (b : Rect) (l : List Float) where
   unfolding enlargedAll
   scan-list-accepted h = simp (eq-eqb (grownBy b l .refusal) 0 h)
 
--- the points one by one: a list that growth refuses with 5 is refused so, and leaves the box
+-- ---- the scan by value: the points one by one through the worker
+-- a list that growth refuses with 5 is refused so, and the start comes back as it came
 pub scan-list-bad : (b : Rect) (l : List Float) → wholePoints l ≡ false → scanned b l ≡ under (number badList) b
 unfolding scanned
 scan-list-bad b l w = simp w
 
--- by no point the box is left as it is; a bad point is passed over, and the scan goes on from the same box
-pub scan-nothing : (b : Rect) → scanned b [] ≡ under (number accepted) b
-unfolding scanned scannedFrom wholePoints pointsOf
-scan-nothing b = refl
+-- then the start's 1 or 2, with the standard empty, whatever the points are, and by no point too
+pub scan-start-out : (b : Rect) (l : List Float) → wholePoints l ≡ true → rectInReach b ≡ false → scanned b l ≡ emptyUnder (number outOfReach)
+unfolding scanned scannedByPoints
+scan-start-out b l w h = simp (w, one-out b h)
 
-pub scan-passes : (n : ℕ) (b : Rect) (p : LatLng) (l : List LatLng) → Valid b → validPoint p ≡ false → scannedFrom n b (p ∷ l) ≡ scannedFrom (number badPoint) b l
-unfolding scannedFrom firstRefusal enlarged
-scan-passes n b p l v h = simp (add-refused b p v h)
+pub scan-start-not-valid : (b : Rect) (l : List Float) → wholePoints l ≡ true → rectInReach b ≡ true → valid b ≡ false → scanned b l ≡ emptyUnder (number notValid)
+unfolding scanned scannedByPoints
+scan-start-not-valid b l w k h = simp (w, one-not-valid b k h)
 
--- good points, one or more, from a valid box: the scan's box is that of growth by the list
-scan-more : (b : Rect) (p : LatLng) (l : List LatLng) → Valid b → ValidPoint p → scannedFrom 0 b (p ∷ l) ≡ scannedFrom 0 (add b p .value) l
-unfolding scannedFrom firstRefusal enlarged
-scan-more b p l v q = simp (add-is b v p q)
+-- a valid start is enlarged by the points one by one
+scan-valid : (b : Rect) (l : List Float) → wholePoints l ≡ true → Valid b → scanned b l ≡ handedBack (scannedFrom 0 b (pointsOf l))
+unfolding scanned scannedByPoints
+scan-valid b l w v = simp (w, one-in b v)
 
-scan-good : (b : Rect) (ps : List LatLng) → Valid b → NoMinusRect b → All ValidPoint ps → scannedFrom 0 b ps ≡ rectAnswer (grownAll (asRead b) ps)
-unfolding scannedFrom grownAll
-scan-good b [] v m q = ap rectAnswer (sym (read-same b m))
-scan-good b (p ∷ l) v m q =
-    scan-more b p l v (q .0) ∙ scan-good (add b p .value) l (add-valid v (q .0)) (add-plain b v p (q .0)) (q .1)
+-- by no point it is answered as it is read
+pub scan-nothing : (b : Rect) → Valid b → scanned b [] ≡ rectAnswer (asRead b)
+unfolding scannedFrom handedBack wholePoints pointsOf
+scan-nothing b v = scan-valid b [] refl v
+
+-- a good point enlarges the box; a bad one is passed over, and the scan goes on from the same box
+module _ (n : ℕ) (b : Rect) (p : LatLng) (l : List LatLng) (v : Valid b) where
+  scan-more : ValidPoint p → scannedFrom n b (p ∷ l) ≡ scannedFrom n (add b p .value) l
+  unfolding scannedFrom firstRefusal enlarged
+  scan-more q = simp (add-is b v p q)
+
+  pub scan-passes : validPoint p ≡ false → scannedFrom n b (p ∷ l) ≡ scannedFrom (number badPoint) b l
+  unfolding scannedFrom firstRefusal enlarged
+  scan-passes h = simp (add-refused b p v h)
+
+-- so by bad points alone the start comes back as it came
+bad-passed : (b : Rect) (ps : List LatLng) → Valid b → All (λ (p : LatLng). validPoint p ≡ false) ps → scannedFrom (number badPoint) b ps ≡ under (number badPoint) b
+unfolding scannedFrom
+bad-passed b [] v h = refl
+bad-passed b (p ∷ l) v h = scan-passes 3 b p l v (h .0) ∙ bad-passed b l v (h .1)
+
+pub scan-keeps : (b : Rect) (l : List Float) → wholePoints l ≡ true → Valid b → (p : LatLng) (ps : List LatLng) → pointsOf l ≡ p ∷ ps → All (λ (o : LatLng). validPoint o ≡ false) (p ∷ ps) → scanned b l ≡ under (number badPoint) b
+unfolding handedBack
+scan-keeps b l w v p ps e h =
+    scan-valid b l w v ∙ ap handedBack (ap (scannedFrom 0 b) e ∙ scan-passes 0 b p ps v (h .0) ∙ bad-passed b ps v (h .1))
+
+-- ---- the scan beside growth by the list
+-- good points from a valid start: both answer the same, whatever the list is, an empty one too
+scan-all : (b : Rect) (ps : List LatLng) → Valid b → All ValidPoint ps → handedBack (scannedFrom 0 b ps) ≡ rectAnswer (grownAll (asRead b) ps)
+unfolding handedBack scannedFrom grownAll
+scan-all b [] v q = refl
+scan-all b (p ∷ l) v q =
+    ap handedBack (scan-more 0 b p l v (q .0)) ∙ scan-all (add b p .value) l (add-valid v (q .0)) (q .1)
     ∙ ap (λ (x : Rect). rectAnswer (grownAll x l)) (sym (grown-read b p v (q .0)))
 
-pub scan-grows : (b : Rect) (l : List Float) → Accepted b l → (p : LatLng) (ps : List LatLng) → pointsOf l ≡ p ∷ ps → scanned b l ≡ grownBy b l
-unfolding scanned grownAll
-scan-grows b l a p ps e =
-    let q : All ValidPoint (p ∷ ps) = subst (All ValidPoint) e (a .points) in
-    let v = a .start in
-    rw (a .whole) (
-    ap (scannedFrom 0 b) e ∙ scan-more b p ps v (q .0) ∙ scan-good (add b p .value) ps (add-valid v (q .0)) (add-plain b v p (q .0)) (q .1)
-    ∙ ap (λ (x : Rect). rectAnswer (grownAll x ps)) (sym (grown-read b p v (q .0)))
-    ∙ ap (λ (x : List LatLng). rectAnswer (grownAll (asRead b) x)) (sym e) ∙ sym (accepted-is b l a))
+pub scan-grows : (b : Rect) (l : List Float) → Accepted b l → scanned b l ≡ grownBy b l
+scan-grows b l a = scan-valid b l (a .whole) (a .start) ∙ scan-all b (pointsOf l) (a .start) (a .points) ∙ sym (accepted-is b l a)
+
+-- the last refusal that is not 0 is 3 where there is a bad point
+scanned-number : (n : ℕ) (b : Rect) (ps : List LatLng) → Valid b → All DoublePoint ps → scannedFrom n b ps .refusal ≡ firstRefusal (firstBad ps) n
+unfolding scannedFrom firstBad firstRefusal
+scanned-number n b [] v d = refl
+scanned-number n b (p ∷ l) v d =
+    go (validPoint p) refl (λ q. scanned-number n (add b p .value) l (add-valid v q) (d .1)) (scanned-number 3 b l v (d .1)) (points-decided l (d .1))
+  where
+    number-of : {x y : Answer} → x ≡ y → x .refusal ≡ y .refusal
+    number-of e = ap (λ (a : Answer). a .refusal) e
+
+    go : (t : Bool) → validPoint p ≡ t → (ValidPoint p → scannedFrom n (add b p .value) l .refusal ≡ firstRefusal (firstBad l) n) → scannedFrom 3 b l .refusal ≡ firstRefusal (firstBad l) 3
+        → (All ValidPoint l × (firstBad l ≡ number accepted)) ⊎ (firstBad l ≡ number badPoint) → scannedFrom n b (p ∷ l) .refusal ≡ firstRefusal (firstBad (p ∷ l)) n
+    go true e good bad k = let q = point-of p (d .0) e in number-of (scan-more n b p l v q) ∙ good q ∙ simp (point-in p q)
+    go false e good bad (inl k) = number-of (scan-passes n b p l v e) ∙ bad ∙ simp (point-bad p e, k .1)
+    go false e good bad (inr k) = number-of (scan-passes n b p l v e) ∙ bad ∙ simp (point-bad p e, k)
+
+-- where a point is bad it answers 3, and the running box as it is, every bit of it
+scan-bad : (b : Rect) (l : List Float) → All DoublePoint (pointsOf l) → wholePoints l ≡ true → Valid b → firstBad (pointsOf l) ≡ number badPoint
+    → (scanned b l .refusal ≡ number badPoint) × (scanned b l ≡ scannedFrom 0 b (pointsOf l))
+unfolding handedBack firstRefusal
+scan-bad b l d w v h =
+    let n : scannedFrom 0 b (pointsOf l) .refusal ≡ 3 = scanned-number 0 b (pointsOf l) v d ∙ simp h in
+    let e : scanned b l ≡ scannedFrom 0 b (pointsOf l) = scan-valid b l w v ∙ simp n in
+    (ap (λ (a : Answer). a .refusal) e ∙ n, e)
+
+pub scan-running : (b : Rect) (l : List Float) → All DoublePoint (pointsOf l) → wholePoints l ≡ true → Valid b → (p : LatLng) → Among p (pointsOf l) → validPoint p ≡ false
+    → (scanned b l .refusal ≡ number badPoint) × (scanned b l ≡ scannedFrom 0 b (pointsOf l))
+scan-running b l d w v p m h = scan-bad b l d w v (bad-among m h)
+
+-- for every start and every list both give the same number, and but for 3 the same answer
+module _ (b : Rect) (l : List Float) (d : Doubles b) (e : All DoublePoint (pointsOf l)) where
+  beside-growth : (scanned b l ≡ grownBy b l) ⊎ ((scanned b l .refusal ≡ 3) × (grownBy b l .refusal ≡ 3))
+  beside-growth = go (wholePoints l) (rectInReach b) (valid b) refl refl refl (points-decided (pointsOf l) e)
+    where
+      go : (t a c : Bool) → wholePoints l ≡ t → rectInReach b ≡ a → valid b ≡ c → (All ValidPoint (pointsOf l) × (firstBad (pointsOf l) ≡ number accepted)) ⊎ (firstBad (pointsOf l) ≡ number badPoint)
+          → (scanned b l ≡ grownBy b l) ⊎ ((scanned b l .refusal ≡ 3) × (grownBy b l .refusal ≡ 3))
+      go true true true w k v (inl p) = inl (scan-grows b l (record { whole = w; start = valid-of b d k v; points = p .0 }))
+      go true true true w k v (inr p) = let u = valid-of b d k v in inr (scan-bad b l e w u p .0, ap (λ (x : Answer). x .refusal) (first-bad b l w u p))
+      go true true false w k v p = inl (scan-start-not-valid b l w k v ∙ sym (start-not-valid b l w k v))
+      go true false c w k v p = inl (scan-start-out b l w k ∙ sym (start-out-of-reach b l w k))
+      go false a c w k v p = inl (scan-list-bad b l w ∙ sym (list-refused b l w))
+
+  pub scan-number : scanned b l .refusal ≡ grownBy b l .refusal
+  scan-number = go beside-growth
+    where
+      go : (scanned b l ≡ grownBy b l) ⊎ ((scanned b l .refusal ≡ 3) × (grownBy b l .refusal ≡ 3)) → scanned b l .refusal ≡ grownBy b l .refusal
+      go (inl s) = ap (λ (x : Answer). x .refusal) s
+      go (inr s) = s .0 ∙ sym (s .1)
+
+  pub scan-agrees : (grownBy b l .refusal ≡ 3 → ⊥) → scanned b l ≡ grownBy b l
+  scan-agrees h = go beside-growth
+    where
+      go : (scanned b l ≡ grownBy b l) ⊎ ((scanned b l .refusal ≡ 3) × (grownBy b l .refusal ≡ 3)) → scanned b l ≡ grownBy b l
+      go (inl s) = s
+      go (inr s) = absurd (h (s .1))
+
+  -- so what is answered under 0 is valid, has no negative zero, and holds the start and each of the points
+  pub scan-holds : scanned b l .refusal ≡ 0 → Grown (scanned b l .value) b (pointsOf l)
+  scan-holds h =
+      let a = only-accepted b l d e (sym scan-number ∙ h) in
+      subst (λ (x : Answer). Grown (x .value) b (pointsOf l)) (sym (scan-grows b l a)) (growth-holds b l a)
+
+  pub scan-plain : scanned b l .refusal ≡ 0 → Valid (scanned b l .value) × NoMinusRect (scanned b l .value)
+  scan-plain h = let g = scan-holds h in (g .is-valid, g .no-minus)

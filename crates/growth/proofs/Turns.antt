@@ -1,14 +1,15 @@
 -- A turn of each loop, on plain lists: one point more is read, and what was done so far with what the rest comes to is the whole. Assumes nothing.
 use mathlib.Core.Path.{_≡_, refl, sym, ap, _∙_}
-use mathlib.Core.Bool.{true, false}
+use mathlib.Core.Bool.{Bool, true, false, not}
 use mathlib.Core.List.{List, [], _∷_}
-use Prim.Native.Nat.{ℕ, suc, _+_, _%_, _≤_, _<_}
+use Prim.Native.Nat.{ℕ, suc, _+_, _%_, _<_}
 use native.Mathlib.Numerals.{add-one}
 use native.Mathlib.Omega.{arith}
 use lib.ListN.{length, drop}
 use lib.Seq.{drop-cons, drop-length}
-use borrow.Author.Tests.{le-leb, lt-leb, eq-eqb, ne-eqb}
+use borrow.Author.Tests.{eqb-true, eq-eqb, ne-eqb}
 use lib.Ieee.{Float, nan}
+use Rattle.order.proofs.Ranks.{and-l}
 use Rattle.consts.specs.Refusal.{firstRefusal, given}
 use Rattle.s2.specs.declared.latlng.LatLng.{LatLng}
 use Rattle.s2.specs.declared.rect.Rect.{Rect}
@@ -18,7 +19,7 @@ use Rattle.s2.specs.declared.reading.Pair.{Pair}
 use Rattle.s2.specs.Rect.{grown}
 use Rattle.s2.specs.Reading.{readOne, readPoint}
 use Rattle.s2.specs.Answers.{rectAnswer, emptyUnder}
-use Rattle.growth.specs.Scan.{enlarged, scannedFrom, scanned}
+use Rattle.growth.specs.Scan.{enlarged, scannedFrom, handedBack, scannedByPoints, scanned}
 use Rattle.growth.specs.Growth.{pointsOf, pointAt, wholePoints, under, firstBad, grownAll, grownFrom, grownByPoints, grownBy}
 
 -- ---- the list of numbers: one point more, or none
@@ -34,17 +35,19 @@ unfolding pointsOf
 none-left l = rw (drop-length l) refl
 
 -- ---- whole points, or not
-pub whole : (l : List Float) → length l % 2 ≡ 0 → length l ≤ 8192 → wholePoints l ≡ true
-unfolding wholePoints
-whole l e h = simp (eq-eqb _ _ e, le-leb _ _ h)
+-- the way that a test took
+pub taken : {b : Bool} → not b ≡ true → b ≡ false
+taken {b = true} h = sym h
+taken {b = false} h = refl
 
-pub odd : (l : List Float) → (length l % 2 ≡ 0 → ⊥) → wholePoints l ≡ false
-unfolding wholePoints
-odd l h = simp (ne-eqb _ _ h)
+pub passed : {b : Bool} → not b ≡ false → b ≡ true
+passed {b = true} h = refl
+passed {b = false} h = sym h
 
-pub long : (l : List Float) → length l % 2 ≡ 0 → 8192 < length l → wholePoints l ≡ false
+-- the length of whole points is even
+pub whole-even : (l : List Float) → wholePoints l ≡ true → length l % 2 ≡ 0
 unfolding wholePoints
-long l e h = simp (eq-eqb _ _ e, lt-leb _ _ h)
+whole-even l w = eqb-true (length l % 2) 0 (and-l _ _ w)
 
 -- ---- growth: the start's refusal, then a turn, then the end
 module _ (r : Rect) (l : List Float) (w : wholePoints l ≡ true) (x : One) (e : x ≡ readOne r) where
@@ -80,10 +83,31 @@ pub grow-end : (r q : Rect) (l : List Float) → grownFrom r q (pointsOf (drop (
 unfolding grownFrom firstBad grownAll
 grow-end r q l = rw (none-left l) refl
 
--- ---- the scan: the start, a turn, the end
-pub scan-start : (b : Rect) (l : List Float) → wholePoints l ≡ true → scanned b l ≡ scannedFrom 0 b (pointsOf l)
-unfolding scanned
-scan-start b l w = simp w
+-- ---- the scan: the start's refusal and what is answered of the box, then a turn, then the end
+module _ (b : Rect) (l : List Float) (w : wholePoints l ≡ true) (x : One) (e : x ≡ readOne b) where
+  abbrev scan-by-start : One → Answer
+  scan-by-start y = given (y .refusal) (handedBack (scannedFrom 0 b (pointsOf l))) (emptyUnder (y .refusal))
+
+  pub scan-start-refused : (x .refusal ≡ 0 → ⊥) → scanned b l ≡ emptyUnder (x .refusal)
+  unfolding scanned scannedByPoints
+  scan-start-refused k = rw w (ap scan-by-start (sym e) ∙ rw (ne-eqb (x .refusal) 0 k) refl)
+
+  scan-start-read : x .refusal ≡ 0 → scanned b l ≡ handedBack (scannedFrom 0 b (pointsOf l))
+  unfolding scanned scannedByPoints
+  scan-start-read k = rw w (ap scan-by-start (sym e) ∙ rw (eq-eqb (x .refusal) 0 k) refl)
+
+  -- the running box after all points, and the last refusal
+  module _ (k : x .refusal ≡ 0) (a : Answer) (f : a ≡ scannedFrom 0 b (pointsOf l)) where
+    handed : scanned b l ≡ handedBack a
+    handed = scan-start-read k ∙ ap handedBack (sym f)
+
+    pub scan-left : (a .refusal ≡ 0 → ⊥) → scanned b l ≡ a
+    unfolding handedBack
+    scan-left n = handed ∙ simp (ne-eqb (a .refusal) 0 n)
+
+    pub scan-written : a .refusal ≡ 0 → (y : One) → y ≡ readOne (a .value) → scanned b l ≡ rectAnswer (y .value)
+    unfolding handedBack readOne
+    scan-written n y g = handed ∙ rw (eq-eqb (a .refusal) 0 n) (ap (λ (z : One). rectAnswer (z .value)) (sym g))
 
 pub scan-turn : (n : ℕ) (b : Rect) (l : List Float) (i : ℕ) → i + 1 < length l → (m : ℕ) (a : Answer) → a ≡ enlarged b (pointAt l i) → m ≡ firstRefusal (a .refusal) n
     → scannedFrom n b (pointsOf (drop i l)) ≡ scannedFrom m (a .value) (pointsOf (drop (i + 2) l))

@@ -8,7 +8,8 @@ use Rattle.consts.specs.Refusal.{number, accepted, badList, firstRefusal, given
 use Rattle.s2.specs.declared.latlng.LatLng.{LatLng}
 use Rattle.s2.specs.declared.rect.Rect.{Rect}
 use Rattle.s2.specs.declared.rect.Answer.{Answer}
-use Rattle.s2.specs.Answers.{add}
+use Rattle.s2.specs.Reading.{asRead, readOne}
+use Rattle.s2.specs.Answers.{rectAnswer, emptyUnder, add}
 use Rattle.growth.specs.Growth.{pointsOf, wholePoints, under, grownBy}
 
 -- the box b after growth answered a
@@ -29,6 +30,14 @@ unfoldable pub scannedFrom : ℕ → Rect → List LatLng → Answer
 scannedFrom n b [] = under n b
 scannedFrom n b (p ∷ l) = scannedFrom (firstRefusal (enlarged b p .refusal) n) (enlarged b p .value) l
 
--- a list that growth would refuse with 5 is refused with 5, and the box is the start
+-- what is answered of the running box: under 0 it has its zeros read, under 3 it is handed back as it is
+unfoldable pub handedBack : Answer → Answer
+handedBack a = given (a .refusal) (rectAnswer (asRead (a .value))) a
+
+-- the scan by whole points: the start's own refusal comes first, with the standard empty, whatever the points are
+unfoldable pub scannedByPoints : Rect → List LatLng → Answer
+scannedByPoints b ps = given (readOne b .refusal) (handedBack (scannedFrom (number accepted) b ps)) (emptyUnder (readOne b .refusal))
+
+-- the whole answer: before all else a list that growth would refuse with 5 is refused with 5, and the start comes back as it came
 unfoldable pub scanned : Rect → List Float → Answer
-scanned b l = cond (wholePoints l) (scannedFrom (number accepted) b (pointsOf l)) (under (number badList) b)
+scanned b l = cond (wholePoints l) (scannedByPoints b (pointsOf l)) (under (number badList) b)

@@ -18,14 +18,22 @@ ghost use lib.ListN.{length};
 ghost use Rattle.s2.specs.Places.{Valid};
 ghost use Rattle.s2.specs.Rect.{at};
 ghost use Rattle.s2.specs.Reading.{readPoint};
-ghost use Rattle.growth.specs.Growth.{pointsOf, pointAt, under, grownFrom, grownBy};
+ghost use Rattle.growth.specs.Growth.{pointsOf, pointAt, wholePoints, under, grownFrom, grownBy};
 ghost use Rattle.growth.specs.Held.{isOn, isHeld, HeldUntil};
 
 // A number and the rectangle beside it.
-fn answer(refusal: u8, value: Rect) -> Answer
+pub(crate) fn answer(refusal: u8, value: Rect) -> Answer
     ensures { λ a. ⌜ a ≡ under refusal value ⌝ }
 {
     Answer { refusal, value }
+}
+
+// Whether a list is of whole points, and of at most 4,096.
+pub(crate) fn whole_points(points: &[f64]) -> bool
+    ensures { λ b. ⌜ b ≡ wholePoints (now (points .entry)) ⌝ }
+{
+    let n = points.len();
+    (n % 2 == 0) & (n <= 8192)
 }
 
 // The point that starts at the number i, as it is read.
@@ -103,11 +111,7 @@ fn grow_points(r: Rect, start: Rect, points: &[f64]) -> Answer
 pub fn grow(r: Rect, points: &[f64]) -> Answer
     ensures { λ a. ⌜ a ≡ grownBy r (now (points .entry)) ⌝ }
 {
-    let n = points.len();
-    if n % 2 != 0 {
-        return answer(BAD_LIST, r);
-    }
-    if n > 8192 {
+    if !whole_points(points) {
         return answer(BAD_LIST, r);
     }
     let start = read_one(r);

@@ -1,16 +1,22 @@
 // The scan worker: it keeps one running box, and each point enlarges that same box. It calls growth by
 // value and stores what that answers, but only under 0: a refusal leaves every bit of the box as it is.
 // Above it `scan_point` and `scan` lend a box of their own, for callers that have none to lend.
+use crate::growth::answer;
 use crate::growth::grow;
+use crate::growth::whole_points;
 use consts::ACCEPTED;
 use consts::BAD_LIST;
 use s2::latlng::LatLng;
+use s2::reading::read_one;
 use s2::rect::Answer;
 use s2::rect::Rect;
 ghost use mathlib.Core.Path.{_≡_};
+ghost use Prim.Native.Nat.{_%_};
+ghost use lib.ListN.{length};
 ghost use Rattle.s2.specs.Rect.{at};
 ghost use Rattle.s2.specs.Answers.{add};
-ghost use Rattle.growth.specs.Scan.{enlarged, enlargedAll, scanned};
+ghost use Rattle.growth.specs.Growth.{pointsOf};
+ghost use Rattle.growth.specs.Scan.{enlarged, enlargedAll, scannedFrom, scanned};
 
 // Growth by one point, with plain parameters.
 fn grow_point(r: Rect, lat: f64, lng: f64) -> Answer
@@ -50,23 +56,13 @@ pub fn scan_point(start: Rect, lat: f64, lng: f64) -> Answer
     Answer { refusal, value: b }
 }
 
-// The points of a list one by one through the worker: the last refusal that is not 0, and the box after.
-pub fn scan(start: Rect, points: &[f64]) -> Answer
-    ensures { λ a. ⌜ a ≡ scanned start (now (points .entry)) ⌝ }
+// The points of a list one by one through the worker, on a box that starts as `start`: the last refusal
+// that is not 0, and the box after.
+fn scan_points(start: Rect, points: &[f64]) -> Answer
+    requires { ⌜ length (now points) % 2 ≡ 0 ⌝ }
+    ensures { λ a. ⌜ a ≡ scannedFrom 0 start (pointsOf (now (points .entry))) ⌝ }
 {
     let n = points.len();
-    if n % 2 != 0 {
-        return Answer {
-            refusal: BAD_LIST,
-            value: start,
-        };
-    }
-    if n > 8192 {
-        return Answer {
-            refusal: BAD_LIST,
-            value: start,
-        };
-    }
     let mut refusal = ACCEPTED;
     let mut b = start;
     let mut i = 0;
@@ -76,5 +72,25 @@ pub fn scan(start: Rect, points: &[f64]) -> Answer
         b = a.value;
         i += 2;
     }
-    Answer { refusal, value: b }
+    answer(refusal, b)
+}
+
+// The same for any start and any list: first the length is looked at, then the start is read, with no
+// point too, and 1 or 2 answer the standard empty. A bad point is passed over, and beside its 3 the box is
+// handed back as it is; under 0 it has its zeros read. Beside growth: scan-grows, scan-agrees.
+pub fn scan(start: Rect, points: &[f64]) -> Answer
+    ensures { λ a. ⌜ a ≡ scanned start (now (points .entry)) ⌝ }
+{
+    if !whole_points(points) {
+        return answer(BAD_LIST, start);
+    }
+    let first = read_one(start);
+    if first.refusal != ACCEPTED {
+        return answer(first.refusal, Rect::EMPTY);
+    }
+    let a = scan_points(start, points);
+    if a.refusal != ACCEPTED {
+        return a;
+    }
+    answer(ACCEPTED, read_one(a.value).value)
 }

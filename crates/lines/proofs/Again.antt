@@ -16,8 +16,9 @@ use Rattle.bbox.specs.declared.bounds.Bounds.{Bounds}
 use Rattle.bbox.specs.Reading.{readOf}
 use Rattle.bbox.specs.Text.{decimals, fracText, sizeText, numberText, elementText, textOf}
 use Rattle.bbox.proofs.Round.{round-trip}
-use Rattle.lines.specs.Lines.{lineOf, afterLine, Boxes, after, readFrom, linesOf}
+use Rattle.lines.specs.Lines.{lineOf, afterLine, NoLine, Boxes, after, readFrom, linesOf}
 use Rattle.lines.specs.Answers.{Given, boxText, boxLine, boxLines}
+use Rattle.lines.proofs.Cuts.{afterAll, after-none}
 
 -- ---- bytes above 10
 abbrev Over : ℕ → Type 0
@@ -113,7 +114,7 @@ unfolding readFrom
 read-line n k b [] h e = absurd (not-suc-le-zero h)
 read-line n k b (c ∷ s) h e = simp e
 
-read-again : (n k : ℕ) (l : List Bounds) → All Given l → length l ≤ n → readFrom n k (boxLines l) ≡ Boxes l
+read-again : (n k : ℕ) (l : List Bounds) → All Given l → length l ≤ n → readFrom n k (boxLines l) ≡ afterAll l NoLine
 unfolding readFrom boxLines
 read-again zero k [] g h = refl
 read-again zero k (b ∷ l) g h = absurd (not-suc-le-zero h)
@@ -126,6 +127,6 @@ read-again (suc n) k (b ∷ l) g h =
     ∙ read-line n k b s (omega (arith, length-append (textOf b) (10 ∷ rest))) (ap readOf (line-over rest (textOf b) o) ∙ round-trip b (g .0))
     ∙ ap (λ (u : List ℕ). after b (readFrom n (k + 1) u)) (after-over rest (textOf b) o) ∙ ap (after b) (read-again n (k + 1) l (g .1) (omega (arith, h)))
 
-pub again : (l : List Bounds) → All Given l → length l ≤ 512 → linesOf (boxLines l) ≡ Boxes l
+pub again : (l : List Bounds) → All Given l → 0 < length l → length l ≤ 512 → linesOf (boxLines l) ≡ Boxes l
 unfolding linesOf
-again l g h = read-again 512 1 l g h
+again l g p h = read-again 512 1 l g h ∙ after-none l p

@@ -7,14 +7,11 @@ use mathlib.Core.Logic.{_⊎_, inl, inr}
 use Prim.Native.Nat.{suc, _≤_, _<_}
 use native.Mathlib.Omega.{arith}
 use lib.ListN.{length}
-use lib.Ieee.{ofBits, lt}
-use Rattle.r1.specs.Line as line
 use Rattle.s2.specs.declared.rect.Rect.{Rect}
-use Rattle.s2.specs.Rect.{FULL, empty}
+use Rattle.s2.specs.Rect.{empty}
 use Rattle.s2.specs.Places.{Valid}
 use Rattle.region.specs.CommonRegion.{All, CommonRegion}
-use Rattle.region.specs.Clipping.{steps, common}
-use Rattle.region.specs.Region.{bandFrom, lngs, across, region}
+use Rattle.region.specs.Region.{region}
 use Rattle.region.specs.Answers.{asReadAll, piecesOf}
 use Rattle.region.proofs.Entries.{Mem, first, later, no-mem}
 use Rattle.region.proofs.Listed.{listed-is}
@@ -22,11 +19,10 @@ use Rattle.region.proofs.Unique.{unique}
 use Rattle.region.proofs.Laws as laws
 use Rattle.bbox.specs.declared.bounds.Bounds.{Bounds}
 use Rattle.degrees.specs.Degrees.{rectOf}
-use Rattle.degrees.proofs.Angles as angles
 use Rattle.degrees.proofs.Boxes.{accepted-is, same-box}
-use Rattle.lines.specs.Answers.{Given, rects, GLOBE, wholes, commonBoxes}
+use Rattle.lines.specs.Answers.{Given, rects, wholes, commonBoxes}
 use Rattle.lines.proofs.Taken.{rects-of, valid-rects}
-use Rattle.lines.proofs.Back.{Small, cases, globe-given, rects-back, small-back}
+use Rattle.lines.proofs.Back.{Small, cases, rects-back, small-back}
 use Rattle.lines.proofs.Givable.{is-given}
 
 -- ---- boxes and their rectangles
@@ -87,23 +83,6 @@ module _ (l : List Bounds) (g : All Given l) where
   at-most h =
       let n = length-rects l in
       omega (arith, n, length-rects (commonBoxes l), ap length rects-are, laws.at-most (rects l) (valid-rects l g) (omega (arith, n, h)))
-
--- ---- no box: the globe
-full-found : region (asReadAll (rects [])) ≡ FULL ∷ []
-unfolding rects asReadAll region bandFrom lngs common steps across line.empty lt ofBits
-full-found = refl
-
-globe-full : rects (GLOBE ∷ []) ≡ FULL ∷ []
-unfolding rects rectOf
-globe-full = λ i. record { lat = record { lo = angles.south i; hi = angles.north i }; lng = record { lo = angles.west i; hi = angles.east i } } ∷ []
-
-pub no-box : commonBoxes [] ≡ GLOBE ∷ []
-no-box = same-boxes (commonBoxes []) (GLOBE ∷ []) (all-given [] tt) (globe-given, tt) (rects-are [] tt ∙ full-found ∙ sym globe-full)
-
--- ---- so up to 512 boxes have up to 512
-pub few : (l : List Bounds) → All Given l → length l ≤ 512 → length (commonBoxes l) ≤ 512
-few [] g h = omega (arith, ap length no-box)
-few (b ∷ l) g h = omega (arith, at-most (b ∷ l) g (omega arith))
 
 -- ---- order and repetition
 abbrev pub Within : List Bounds → List Bounds → Type 0

@@ -5,13 +5,14 @@ use mathlib.Core.Bool.{Bool, true, false, cond}
 use mathlib.Core.List.{List, [], _∷_, _++_}
 use Prim.Native.Nat.{ℕ, zero, suc, _+_, _-_, _≤_, _<_}
 use native.Mathlib.Omega.{arith}
+use native.Mathlib.Nat.{not-suc-le-zero}
 use native.Mathlib.Numerals.{add-one}
 use borrow.Author.Tests.{eq-eqb, ne-eqb}
 use lib.Dec.{eqb}
 use lib.ListN.{length, take, drop, getD, drop-of-length-le}
 use lib.Seq.{drop-cons, drop-drop}
 use Rattle.bbox.specs.declared.bounds.Bounds.{Bounds}
-use Rattle.lines.specs.Lines.{lineOf, afterLine, Lines, Boxes, Fault, TooMany, after, readFrom}
+use Rattle.lines.specs.Lines.{lineOf, afterLine, Lines, NoLine, Boxes, Fault, TooMany, after, readFrom}
 
 -- ---- where a line ends
 module _ (s : List ℕ) (i : ℕ) where
@@ -74,9 +75,11 @@ pub one-after : (l : List Bounds) (b : Bounds) (r : Lines) → afterAll l (after
 one-after [] b r = refl
 one-after (a ∷ l) b r = ap (after a) (one-after l b r)
 
-pub after-boxes : (l m : List Bounds) → afterAll l (Boxes m) ≡ Boxes (l ++ m)
-after-boxes [] m = refl
-after-boxes (a ∷ l) m = ap (after a) (after-boxes l m)
+-- with no line after them they are all
+pub after-none : (l : List Bounds) → 0 < length l → afterAll l NoLine ≡ Boxes l
+after-none [] h = absurd (not-suc-le-zero h)
+after-none (a ∷ []) h = refl
+after-none (a ∷ (b ∷ l)) h = ap (after a) (after-none (b ∷ l) (omega arith))
 
 pub after-fault : (l : List Bounds) (n k : ℕ) → afterAll l (Fault n k) ≡ Fault n k
 after-fault [] n k = refl
@@ -86,7 +89,7 @@ pub after-many : (l : List Bounds) → afterAll l TooMany ≡ TooMany
 after-many [] = refl
 after-many (a ∷ l) = ap (after a) (after-many l)
 
-pub read-none : (n k : ℕ) → readFrom n k [] ≡ Boxes []
+pub read-none : (n k : ℕ) → readFrom n k [] ≡ NoLine
 unfolding readFrom
 read-none zero k = refl
 read-none (suc n) k = refl

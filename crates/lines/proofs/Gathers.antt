@@ -1,4 +1,4 @@
--- What goes out, by what was gathered: boxes, a fault, or more lines than are taken. By the three ways in which a text is gathered. Assumes nothing.
+-- What goes out, by what was gathered: no line, boxes, a fault, or more lines than are taken. By the four ways in which a text is gathered. Assumes nothing.
 use mathlib.Core.Path.{_≡_, sym, ap, _∙_, subst}
 use mathlib.Core.List.{List}
 use Prim.Native.Nat.{ℕ, _+_, _*_, _≤_, _<_}
@@ -6,15 +6,26 @@ use native.Mathlib.Omega.{arith}
 use borrow.Author.Tests.{lt-ltb}
 use lib.ListN.{length, take}
 use lib.IntN.{ℤ}
-use Rattle.consts.specs.Refusal.{number, badList}
+use Rattle.consts.specs.Refusal.{number, badList, badText}
 use Rattle.text.specs.Answers.{wrote, left, wroteRefusal, leftRefusal, wroteRefusalAt, leftRefusalAt}
 use Rattle.bbox.specs.declared.bounds.Bounds.{Bounds}
 use Rattle.lines.specs.declared.gather.Gathered.{Gathered}
 use Rattle.lines.specs.declared.gather.Gathered.the-variants as gathered
-use Rattle.lines.specs.Lines.{Boxes, Fault, TooMany, linesOf}
+use Rattle.lines.specs.Lines.{NoLine, Boxes, Fault, TooMany, linesOf}
 use Rattle.lines.specs.Answers.{answerOf, answerText}
-use Rattle.lines.specs.Promises.{Holds, listedText, IsGathered, all-read, one-refused, one-too-many}
+use Rattle.lines.specs.Promises.{Holds, listedText, IsGathered, none-there, all-read, one-refused, one-too-many}
 use Rattle.lines.proofs.Listing.{gathered-text}
+
+-- ---- no line
+none-as : (s : List ℕ) (l : List ℤ) → IsGathered s gathered.NoLine l → linesOf s ≡ NoLine
+none-as s _ (none-there l e) = e
+
+pub none-text : (s : List ℕ) (g : Gathered) (l : List ℤ) → IsGathered s g l → g ≡ gathered.NoLine → (out : List ℕ)
+    → (wroteRefusal (number badText) (length out) ≡ wrote (answerText s) (length out)) × (leftRefusal (number badText) out ≡ left (answerText s) out)
+unfolding answerText answerOf wroteRefusal leftRefusal
+none-text s g l h e out =
+    let f = none-as s l (subst (λ (x : Gathered). IsGathered s x l) e h) in
+    (simp f, simp f)
 
 -- ---- boxes
 pub record Read (s : List ℕ) (k : ℕ) (l : List ℤ) : Type 0 where

@@ -1,7 +1,8 @@
 -- What has been read of a text when its place is at: k boxes, whose whole numbers stand behind the globe's at the start of the list, and the rest of the text
--- is still to be read. One more line, a fault, one line too many and the end each follow from the next byte. Assumes nothing.
+-- is still to be read. One more line, a fault, one line too many and the end each follow from the next byte; at the end there was no line, or there are boxes.
+-- Assumes nothing.
 use mathlib.Core.Path.{_≡_, refl, sym, ap, _∙_, subst}
-use mathlib.Core.List.{List, [], _∷_, _++_, append-assoc, append-nil}
+use mathlib.Core.List.{List, [], _∷_, _++_, append-assoc}
 use Prim.Native.Nat.{ℕ, suc, _+_, _-_, _*_, _≤_, _<_}
 use native.Mathlib.Omega.{arith}
 use native.Mathlib.Nat.{not-suc-le-zero}
@@ -14,10 +15,10 @@ use Rattle.bbox.specs.declared.reader.Answer.{Answer}
 use Rattle.bbox.specs.Reading.{readOf}
 use Rattle.bbox.proofs.Given.{reads-given}
 use Rattle.region.specs.CommonRegion.{All}
-use Rattle.lines.specs.Lines.{lineOf, afterLine, Boxes, Fault, TooMany, after, readFrom, linesOf}
+use Rattle.lines.specs.Lines.{lineOf, afterLine, NoLine, Boxes, Fault, TooMany, after, readFrom, linesOf}
 use Rattle.lines.specs.Answers.{GLOBE, Given, wholes}
 use Rattle.lines.specs.Promises.{placed, Holds}
-use Rattle.lines.proofs.Cuts.{afterAll, one-after, after-boxes, after-fault, after-many, read-none, next-place, this-line}
+use Rattle.lines.proofs.Cuts.{afterAll, one-after, after-none, after-fault, after-many, read-none, next-place, this-line}
 
 pub record Held (s : List ℕ) (l : List ℤ) (at k : ℕ) : Type 0 where
   pub boxes : List Bounds
@@ -130,10 +131,17 @@ module _ (s : List ℕ) (l : List ℤ) (at k : ℕ) (h : Held s l at k) where
       let u : 512 - k ≡ 0 = omega arith in
       h .is ∙ ap (λ (n : ℕ). afterAll (h .boxes) (readFrom n (k + 1) (drop at s))) u ∙ ap (afterAll (h .boxes)) (read-many (k + 1) (drop at s) (more p)) ∙ after-many (h .boxes)
 
-  pub ends : length s ≤ at → linesOf s ≡ Boxes (h .boxes)
-  ends p =
+  at-end : length s ≤ at → linesOf s ≡ afterAll (h .boxes) NoLine
+  at-end p =
       h .is ∙ ap (λ (t : List ℕ). afterAll (h .boxes) (readFrom (512 - k) (k + 1) t)) (drop-of-length-le s p) ∙ ap (afterAll (h .boxes)) (read-none (512 - k) (k + 1))
-      ∙ after-boxes (h .boxes) [] ∙ ap Boxes (append-nil (h .boxes))
+
+  pub none : length s ≤ at → k ≡ 0 → linesOf s ≡ NoLine
+  none p e =
+      let f : drop 0 (h .boxes) ≡ [] = drop-of-length-le (h .boxes) {i = 0} (omega (arith, h .many)) in
+      at-end p ∙ ap (λ (l : List Bounds). afterAll l NoLine) f
+
+  pub ends : length s ≤ at → (k ≡ 0 → ⊥) → linesOf s ≡ Boxes (h .boxes)
+  ends p z = at-end p ∙ after-none (h .boxes) (omega (arith, h .many, z))
 
   pub all-held : k ≤ 512 → Holds (h .boxes) (take (4 * k + 4) l)
   all-held p = record { given = h .given; few = omega (arith, h .many); are = h .are }

@@ -1,9 +1,9 @@
--- What the lines come to: boxes are those of the lines, all of them, boxes that reading can give, at most 512; a fault stands on the line that is told, and no
--- line before it has one; too many lines are told only where none of the first 512 has a fault and there is another. By induction on the lines. What goes out for boxes is their common region, and
--- reads back as it (Common.antt, Again.antt). Assumes nothing.
+-- What the lines come to: no line is told only of an empty text; boxes are those of the lines, all of them, boxes that reading can give, at least one and at most
+-- 512; a fault stands on the line that is told, and no line before it has one; too many lines are told only where none of the first 512 has a fault and there is
+-- another. By induction on the lines. What goes out for boxes is their common region, and reads back as it (Common.antt, Again.antt). Assumes nothing.
 use mathlib.Core.Path.{_≡_, refl, ap, _∙_, subst}
 use mathlib.Core.Bool.{Bool, true, false, cond}
-use mathlib.Core.List.{List, [], _∷_, append-nil}
+use mathlib.Core.List.{List, [], _∷_}
 use Prim.Native.Nat.{ℕ, zero, suc, _+_, _≤_, _<_}
 use native.Mathlib.Omega.{arith}
 use native.Mathlib.Nat.{not-suc-le-zero}
@@ -11,15 +11,14 @@ use borrow.Author.Tests.{eqb-true, eqb-false}
 use lib.Dec.{eqb}
 use lib.ListN.{length}
 use Rattle.region.specs.CommonRegion.{All, CommonRegion}
-use Rattle.text.specs.Text.{hexDigit, decimalText}
+use Rattle.consts.specs.Refusal.{number, badText}
+use Rattle.text.specs.Text.{refusedText}
 use Rattle.bbox.specs.declared.bounds.Bounds.{Bounds}
-use Rattle.bbox.specs.Bounds.{givable, inLimits, settled, wholeCircle, within, isWestmost, isEastmost}
 use Rattle.bbox.specs.Reading.{readOf}
-use Rattle.bbox.specs.Text.{decimals, fracText, sizeText, numberText, elementText, textOf}
 use Rattle.bbox.proofs.Given.{reads-given}
-use Rattle.lines.specs.Lines.{lineOf, afterLine, Lines, Boxes, Fault, TooMany, after, readFrom, linesOf}
-use Rattle.lines.specs.Answers.{GLOBE, Given, rects, commonBoxes, boxText, boxLine, boxLines, answerOf, answerText}
-use Rattle.lines.proofs.Common.{all-given, common-boxes, few, no-box}
+use Rattle.lines.specs.Lines.{lineOf, afterLine, Lines, NoLine, Boxes, Fault, TooMany, after, readFrom, linesOf}
+use Rattle.lines.specs.Answers.{Given, rects, commonBoxes, boxLines, answerOf, answerText}
+use Rattle.lines.proofs.Common.{all-given, common-boxes, at-most}
 use Rattle.lines.proofs.Again.{again}
 
 -- ---- the lines of a text, counted from 0
@@ -44,6 +43,7 @@ boxesAt (suc n) s = readOf (lineOf s) .value ∷ boxesAt n (afterLine s)
 -- every line is a box
 pub record Lined (n : ℕ) (s : List ℕ) (l : List Bounds) : Type 0 where
   pub given : All Given l
+  pub some : 0 < length l
   pub few : length l ≤ n
   pub are : l ≡ boxesAt (length l) s
   pub read : (i : ℕ) → i < length l → readOf (lineAt i s) .refusal ≡ 0
@@ -64,6 +64,7 @@ pub record Over (n : ℕ) (s : List ℕ) : Type 0 where
   pub there : 0 < length (restAt n s)
 
 abbrev Means : ℕ → ℕ → List ℕ → Lines → Type 0
+Means n k s NoLine = s ≡ []
 Means n k s (Boxes l) = Lined n s l
 Means n k s (Fault m j) = FaultFrom n k s m j
 Means n k s TooMany = Over n s
@@ -77,9 +78,19 @@ module _ (n k : ℕ) (s : List ℕ) where
 
   read-more : readOf (lineOf s) .refusal ≡ 0 → (r : Lines) → Means n (k + 1) (afterLine s) r → Means (suc n) k s (after (readOf (lineOf s) .value) r)
   unfolding lineAt restAt boxesAt
+  read-more z NoLine m =
+      record {
+        given = (reads-given (lineOf s) z, tt);
+        some = omega arith;
+        few = omega arith;
+        are = refl;
+        read = more-read 0 z (λ i h. absurd (not-suc-le-zero h));
+        ended = m;
+      }
   read-more z (Boxes l) m =
       record {
         given = (reads-given (lineOf s) z, m .given);
+        some = omega arith;
         few = omega (arith, m .few);
         are = ap (λ (t : List Bounds). readOf (lineOf s) .value ∷ t) (m .are);
         read = more-read (length l) z (m .read);
@@ -107,15 +118,11 @@ module _ (n k : ℕ) (s : List ℕ) where
   step p r m true e = read-more (eqb-true (readOf (lineOf s) .refusal) 0 e) r m
   step p r m false e = refused-here p (eqb-false (readOf (lineOf s) .refusal) 0 e)
 
-none-left : (n : ℕ) → Lined n [] []
-unfolding restAt boxesAt
-none-left n = record { given = tt; few = omega arith; are = refl; read = λ i h. absurd (not-suc-le-zero h); ended = refl }
-
 means : (n k : ℕ) (s : List ℕ) → Means n k s (readFrom n k s)
 unfolding readFrom restAt
-means zero k [] = none-left 0
+means zero k [] = refl
 means zero k (b ∷ s) = record { read = λ i h. absurd (not-suc-le-zero h); there = omega arith }
-means (suc n) k [] = none-left (suc n)
+means (suc n) k [] = refl
 means (suc n) k (b ∷ s) =
     step n k (b ∷ s) (omega arith) (readFrom n (k + 1) (afterLine (b ∷ s))) (means n (k + 1) (afterLine (b ∷ s))) (eqb (readOf (lineOf (b ∷ s)) .refusal) 0) refl
 
@@ -123,10 +130,19 @@ from-first : (s : List ℕ) (r : Lines) → linesOf s ≡ r → Means 512 1 s r
 unfolding linesOf
 from-first s r e = subst (Means 512 1 s) e (means 512 1 s)
 
+-- ---- no line
+-- is told of the empty text alone
+pub no-text : (s : List ℕ) → linesOf s ≡ NoLine → s ≡ []
+no-text s e = from-first s NoLine e
+
 -- ---- boxes
 -- the boxes that were read are those of the lines, every one of them, boxes that reading can give, at most 512
 pub lines-given : (s : List ℕ) (l : List Bounds) → linesOf s ≡ Boxes l → Lined 512 s l
 lines-given s l e = from-first s (Boxes l) e
+
+-- and at least one: no answer but a refusal comes of no line
+pub some-line : (s : List ℕ) (l : List Bounds) → linesOf s ≡ Boxes l → 0 < length l
+some-line s l e = lines-given s l e .some
 
 -- ---- faults
 -- the line that the refusal n and the number k, counted from 1, tell: it is there and is refused with n, and none before it is refused
@@ -149,25 +165,17 @@ pub too-many : (s : List ℕ) → linesOf s ≡ TooMany → Over 512 s
 too-many s e = from-first s TooMany e
 
 -- ---- what goes out
--- for boxes their common region, which reads back as it
+-- for boxes their common region, which reads back as it, if there is any
 pub answer-boxes : (s : List ℕ) (l : List Bounds) → linesOf s ≡ Boxes l
-    → (answerText s ≡ boxLines (commonBoxes l)) × CommonRegion (rects l) (rects (commonBoxes l)) × (linesOf (answerText s) ≡ Boxes (commonBoxes l))
+    → (answerText s ≡ boxLines (commonBoxes l)) × CommonRegion (rects l) (rects (commonBoxes l)) × (0 < length (commonBoxes l) → linesOf (answerText s) ≡ Boxes (commonBoxes l))
 unfolding answerText answerOf
 answer-boxes s l e =
     let r : Lined 512 s l = lines-given s l e in
     let g = r .given in
-    let h = r .few in
     let a : answerText s ≡ boxLines (commonBoxes l) = ap answerOf e in
-    (a, common-boxes l g, ap linesOf a ∙ again (commonBoxes l) (all-given l g) (few l g h))
+    (a, common-boxes l g, λ p. ap linesOf a ∙ again (commonBoxes l) (all-given l g) p (omega (arith, r .few, at-most l g (r .some))))
 
--- for no line the globe
-pub no-line : answerText [] ≡ boxLine GLOBE
-unfolding answerText answerOf linesOf readFrom boxLines
-no-line = ap boxLines no-box ∙ append-nil (boxLine GLOBE)
-
--- `[-180,-90,180,90]`
-pub globe-text : boxLine GLOBE
-    ≡ 91 ∷ (45 ∷ (49 ∷ (56 ∷ (48 ∷ (44 ∷ (45 ∷ (57 ∷ (48 ∷ (44 ∷ (49 ∷ (56 ∷ (48 ∷ (44 ∷ (57 ∷ (48 ∷ (93 ∷ (10 ∷ [])))))))))))))))))
-unfolding
-    boxLine boxText textOf elementText numberText sizeText decimalText hexDigit fracText decimals givable inLimits settled wholeCircle within isWestmost isEastmost
-globe-text = refl
+-- for no line `refused 8`, without a line's number
+pub no-line : answerText [] ≡ refusedText (number badText)
+unfolding answerText answerOf linesOf readFrom
+no-line = refl

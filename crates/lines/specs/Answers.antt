@@ -7,7 +7,7 @@ use mathlib.Core.List.{List, [], _∷_, _++_}
 use Prim.Native.Nat.{ℕ}
 use lib.IntN.{ℤ, pos, negℤ}
 use lib.Ieee.{Float, eq}
-use Rattle.consts.specs.Refusal.{number, badList}
+use Rattle.consts.specs.Refusal.{number, badList, badText}
 use Rattle.s2.specs.declared.rect.Rect.{Rect}
 use Rattle.region.specs.Answers.{piecesOf}
 use Rattle.text.specs.Text.{refusedText, refusedAtText}
@@ -15,7 +15,7 @@ use Rattle.bbox.specs.declared.bounds.Bounds.{Bounds}
 use Rattle.bbox.specs.Bounds.{HALF, QUARTER, givable}
 use Rattle.bbox.specs.Text.{textOf}
 use Rattle.degrees.specs.Degrees.{radians, rectOf}
-use Rattle.lines.specs.Lines.{Lines, Boxes, Fault, TooMany, linesOf}
+use Rattle.lines.specs.Lines.{Lines, NoLine, Boxes, Fault, TooMany, linesOf}
 
 -- the whole globe
 abbrev pub GLOBE : Bounds
@@ -71,6 +71,7 @@ boxLines [] = []
 boxLines (b ∷ l) = boxLine b ++ boxLines l
 
 unfoldable pub answerOf : Lines → List ℕ
+answerOf NoLine = refusedText (number badText)
 answerOf (Boxes l) = boxLines (commonBoxes l)
 answerOf (Fault n k) = refusedAtText n k
 answerOf TooMany = refusedText (number badList)

@@ -9,7 +9,7 @@ use Rattle.region.specs.CommonRegion.{All}
 use Rattle.region.specs.Answers.{piecesOf}
 use Rattle.lines.specs.declared.gather.Gathered.{Gathered}
 use Rattle.lines.specs.declared.gather.Gathered.the-variants as gathered
-use Rattle.lines.specs.Lines.{Boxes, Fault, TooMany, linesOf}
+use Rattle.lines.specs.Lines.{NoLine, Boxes, Fault, TooMany, linesOf}
 use Rattle.lines.specs.Answers.{GLOBE, Given, wholes, inRadians, boxesOf, boxLines}
 
 -- the whole numbers of b at a place of the list
@@ -22,8 +22,9 @@ pub record Holds (boxes : List Bounds) (l : List ℤ) : Type 0 where
   pub few : length boxes ≤ 512
   pub are : l ≡ wholes (GLOBE ∷ boxes)
 
--- what was gathered from the text s into the list l: boxes, or the first fault, or more lines than are taken
+-- what was gathered from the text s into the list l: no line, or boxes, or the first fault, or more lines than are taken
 pub data IsGathered (s : List ℕ) : Gathered → List ℤ → Type 0 where
+  none-there : (l : List ℤ) → linesOf s ≡ NoLine → IsGathered s gathered.NoLine l
   all-read : (boxes : List Bounds) (k : ℕ) (l : List ℤ) → linesOf s ≡ Boxes boxes → length boxes ≡ k → Holds boxes (take (4 * k + 4) l)
       → IsGathered s (gathered.Boxes k) l
   one-refused : (n k : ℕ) (l : List ℤ) → linesOf s ≡ Fault n k → k < 1000 → IsGathered s (gathered.Fault n k) l

@@ -1,5 +1,5 @@
 // What the program `boxes` writes for a text: the common region of its boxes, one a line, or the refusal
-// of its first fault.
+// of its first fault, or of a text without a line.
 use crate::gather::Gathered;
 use crate::gather::gather;
 use crate::wholes::box_of;
@@ -7,6 +7,7 @@ use crate::wholes::fill;
 use bbox::Bounds;
 use bbox::write;
 use consts::BAD_LIST;
+use consts::BAD_TEXT;
 use region::common_region;
 use text::Written;
 use text::write_refusal;
@@ -79,7 +80,8 @@ fn listed(list: &[i64], out: &mut [u8]) -> Written
     write_lines(list, &x[..n], &pieces[..m], out)
 }
 
-// The text that goes out for the lines of s, to the start of out.
+// The text that goes out for the lines of s, to the start of out. No line at all is refused: the command
+// before may have failed, and the common region of no boxes would be the whole globe.
 pub fn boxes_text(s: &[u8], out: &mut [u8]) -> Written
     ensures { λ r. ⌜ r ≡ wrote (answerText (now (s .entry))) (length (now (out .entry))) ⌝ }
     ensures { λ _. ⌜ now (out .exit) ≡ left (answerText (now (s .entry))) (now (out .entry)) ⌝ }
@@ -87,6 +89,7 @@ pub fn boxes_text(s: &[u8], out: &mut [u8]) -> Written
     let mut list = [0i64; 2052];
     let g = gather(s, &mut list);
     match g {
+        Gathered::NoLine => write_refusal(BAD_TEXT, out),
         Gathered::Boxes(k) => {
             let n = 4 * k + 4;
             listed(&list[..n], out)

@@ -16,9 +16,10 @@ const GLOBE: Bounds = Bounds {
     north: 900000000,
 };
 
-// What was gathered: how many boxes; or the first fault and the line that it stands on, counted from 1;
-// or more lines than are taken.
+// What was gathered: no line at all; or how many boxes; or the first fault and the line that it stands
+// on, counted from 1; or more lines than are taken.
 pub(crate) enum Gathered {
+    NoLine,
     Boxes(usize),
     Fault(u8, u64),
     TooMany,
@@ -76,6 +77,9 @@ pub(crate) fn gather(s: &[u8], list: &mut [i64]) -> Gathered
         }
         place(list, 4 * k, a.value);
         at = end + 1;
+    }
+    if k == 0 {
+        return Gathered::NoLine;
     }
     Gathered::Boxes(k)
 }

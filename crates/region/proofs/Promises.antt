@@ -62,11 +62,15 @@ module _ (l : List Float) (room : ℕ) where
 
 -- ---- the promise
 module _ (l out : List Float) where
-  pub refused : (n : ℕ) → refusalOf l (length out) ≡ n → (n ≡ 0 → ⊥) → Promised l out (pieces n 0) out
+  -- where nothing is written
+  pub refused-left : (n : ℕ) (last : List Float) → refusalOf l (length out) ≡ n → (n ≡ 0 → ⊥) → last ≡ out → Promised l out (pieces n 0) last
   unfolding answer left
-  refused n e h =
+  refused-left n last e h k =
       let z = ne-eqb n 0 h in
-      record { answers = simp (e, z); leaves = simp (e, z); lists = λ k. absurd (h k) }
+      record { answers = simp (e, z); leaves = simp (e, z) k; lists = λ t. absurd (h t) }
+
+  pub refused : (n : ℕ) → refusalOf l (length out) ≡ n → (n ≡ 0 → ⊥) → Promised l out (pieces n 0) out
+  refused n e h = refused-left n out e h refl
 
   pub granted : ((i : ℕ) → T (fits binary64 (getD l i nan))) → wholeList l ≡ true → firstRefused (rectsOf l) ≡ 0 → (n : ℕ) (last : List Float) → length (piecesOf l) ≡ n → 4 * n ≤ length out
       → last ≡ numbers (piecesOf l) ++ drop (4 * n) out → Promised l out (pieces 0 n) last

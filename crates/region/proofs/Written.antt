@@ -61,6 +61,10 @@ pub out-none : (b : Line) (d : List Interval) (o : List Float) → o ≡ numbers
 unfolding numbers across
 out-none b d o = refl
 
+-- no piece leaves the output as it was
+pub out-nothing : (b : Line) (d : List Interval) (n : ℕ) (o last : List Float) → n ≡ 0 → last ≡ numbers (across b (take n d)) ++ drop (4 * n) o → last ≡ o
+out-nothing b d n o last e h = h ∙ ap (λ (k : ℕ). numbers (across b (take k d)) ++ drop (4 * k) o) e ∙ sym (out-none b d o)
+
 -- the pieces in two arrays
 pub out-turn : (b : Line) (lo hi : List Float) (k : ℕ) → k < length lo → length lo ≡ length hi → (o o₀ : List Float) → o ≡ numbers (across b (take k (zip lo hi))) ++ drop (4 * k) o₀ → length o ≡ length o₀
     → 4 * k + 4 ≤ length o₀

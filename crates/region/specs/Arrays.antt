@@ -3,7 +3,7 @@
 use mathlib.Core.Path.{_≡_}
 use mathlib.Core.Bool.{false}
 use mathlib.Core.List.{List, [], _∷_}
-use Prim.Native.Nat.{ℕ, _+_, _*_, _/_, _≤_}
+use Prim.Native.Nat.{ℕ, _+_, _*_, _/_, _≤_, _<_}
 use lib.ListN.{length, take}
 use lib.Ieee.{Float}
 use Rattle.consts.specs.Refusal.{number, accepted}
@@ -37,6 +37,12 @@ pub record IsCut (i : Interval) (found : List Interval) (m : ℕ) (c : Cut) (l :
 pub record Firsts (n : ℕ) (l p : List Interval) (m : ℕ) : Type 0 where
   pub is : take n l ≡ p
   pub few : n ≤ m + 1
+
+-- r of n pieces are written into room for so many numbers: all of them, or none where they do not fit
+pub record Fitted (n room r : ℕ) : Type 0 where
+  pub none : r < n → (r ≡ 0) × (room < 4 * n)
+  pub few : r ≤ n
+  pub fits : 4 * r ≤ room
 
 -- all that was found in the list of numbers l, with the longitude pieces the first of d
 pub record IsFound (l : List Float) (f : Found) (d : List Interval) : Type 0 where

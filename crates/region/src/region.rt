@@ -13,12 +13,23 @@ ghost use Prim.Native.Nat.{_+_, _*_, _≤_, _%_};
 ghost use lib.ListN.{length, take, drop};
 ghost use Rattle.region.specs.Region.{across};
 ghost use Rattle.region.specs.Answers.{numbers, Promised};
-ghost use Rattle.region.specs.Arrays.{zip};
+ghost use Rattle.region.specs.Arrays.{zip, Fitted};
 
 // How many pieces were listed; none under a refusal.
 pub struct Pieces {
     pub refusal: u8,
     pub count: usize,
+}
+
+// How many of n pieces are written into room for so many numbers: all, or none where they do not fit.
+fn fitting(n: usize, room: usize) -> usize
+    requires { ⌜ n ≤ 1024 ⌝ }
+    ensures { λ r. ⌜ Fitted n room r ⌝ }
+{
+    if room < 4 * n {
+        return 0;
+    }
+    n
 }
 
 // The first n pieces, with the latitude band b, to the start of `out`.
@@ -62,13 +73,14 @@ fn region_in(
             count: 0,
         };
     }
-    if out.len() < 4 * f.count {
+    let n = fitting(f.count, out.len());
+    write_out(lo, hi, n, f.lat, out);
+    if n < f.count {
         return Pieces {
             refusal: NO_ROOM,
             count: 0,
         };
     }
-    write_out(lo, hi, f.count, f.lat, out);
     Pieces {
         refusal: ACCEPTED,
         count: f.count,

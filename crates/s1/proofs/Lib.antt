@@ -10,3 +10,4 @@ pub mod Margins
 pub mod Distances
 pub mod Expansions
 pub mod Measures
+pub mod Closes

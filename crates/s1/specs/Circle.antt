@@ -167,7 +167,7 @@ insideMeets i o =
 unfoldable pub strictlyMeets : Interval → Interval → Bool
 strictlyMeets i o = cond (empty i || empty o || single i) false (insideMeets i o)
 
--- the smallest interval that holds both, by the pairwise choices in the printed order; of two gaps the shorter is closed
+-- an interval that holds both, by the pairwise choices in the printed order; of two gaps the one is closed that is no longer by the rounded distance
 unfoldable pub hull : Interval → Interval → Interval
 hull i o =
     cond (empty o) i
@@ -177,7 +177,7 @@ hull i o =
     (cond (empty i || fast o (i .lo)) o
     (cond (Ieee.lt (distance (o .hi) (i .lo)) (distance (i .hi) (o .lo))) (ends (o .lo) (i .hi)) (ends (i .lo) (o .hi))))))
 
--- an interval that holds all that is common, by the pairwise choices in the printed order; where they meet at both ends, the shorter operand
+-- an interval that holds all that is common, by the pairwise choices in the printed order; where they meet at both ends, the operand of the smaller rounded length
 unfoldable pub overlap : Interval → Interval → Interval
 overlap i o =
     cond (empty o) EMPTY
@@ -247,7 +247,7 @@ approximates i o e =
     (cond (full i) (Ieee.le most (length o))
     (cond (full o) (Ieee.le most (length i)) (nearEnds i o e))))
 
--- the interval with the point p, moved by the least that is needed
+-- the interval with the point p, moved on the side that is nearer by the rounded distance
 unfoldable pub grown : Interval → Float → Interval
 grown i p =
     let q = seam p in

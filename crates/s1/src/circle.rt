@@ -278,8 +278,8 @@ pub fn intersection(i: Interval, other: Interval) -> Interval
     if fast_contains(i, other.lo) {
         if fast_contains(i, other.hi) {
             // Either other ⊂ i, or i and other intersect twice. Neither are empty. In the second case
-            // one of them is inverted, and the smallest interval that covers the two disjoint pieces
-            // is the shorter of the two.
+            // one of them is inverted, and the one that is shorter, by the rounded length, covers the
+            // two disjoint pieces.
             if len(other) < len(i) { other } else { i }
         } else {
             Interval {

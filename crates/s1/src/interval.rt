@@ -141,8 +141,9 @@ impl Interval {
         }
     }
 
-    // from_point_pair returns the minimal interval containing the two given points.
-    // Both arguments must be in [-π,π].
+    // from_point_pair returns an interval containing the two given points: eastward from a to b where
+    // the rounded distance is at most π, and otherwise from b to a. So it is the minimal one but where
+    // rounding hides which way is the shorter (F16). Both arguments must be in [-π,π].
     pub fn from_point_pair(a: f64, b: f64) -> Answer
         ensures { λ r. ⌜ r ≡ fromPointPair a b ⌝ }
     {
@@ -331,7 +332,9 @@ impl Interval {
         }
     }
 
-    // union returns the smallest interval that contains both the interval and other.
+    // union returns an interval that contains both the interval and other. Of two gaps it closes the
+    // one that is no longer by the rounded distance, so it is the smallest one but where both round
+    // alike (F16). Over places: union-holds, union-only.
     pub fn union(self, other: Interval) -> Answer
         ensures { λ r. ⌜ r ≡ union self other ⌝ }
     {
@@ -343,8 +346,9 @@ impl Interval {
         }
     }
 
-    // intersection returns the smallest interval that contains the intersection of the interval and
-    // other. It is a cover and not the common part: two wide intervals can meet at both ends.
+    // intersection returns an interval that contains the intersection of the interval and other. It is
+    // a cover and not the common part: two wide intervals can meet at both ends, and of these the one
+    // that is shorter by `len` is returned. Over places: intersection-holds, intersection-within.
     pub fn intersection(self, other: Interval) -> Answer
         ensures { λ r. ⌜ r ≡ intersection self other ⌝ }
     {
@@ -442,9 +446,9 @@ impl Interval {
         }
     }
 
-    // add returns the interval expanded by the minimum amount necessary such that it contains the
-    // given point "p" (an angle in the range [-Pi, Pi]). A bad point changes nothing: the interval
-    // comes back as it was handed in.
+    // add returns the interval expanded such that it contains the given point "p" (an angle in the
+    // range [-Pi, Pi]), to the side that is nearer by the rounded distance (F16). A bad point changes
+    // nothing: the interval comes back as it was handed in.
     pub fn add(self, p: f64) -> Answer
         ensures { λ r. ⌜ r ≡ add self p ⌝ }
     {

@@ -1,6 +1,6 @@
 // A point by its latitude and longitude, in radians.
 //
-// The original file has no copyright lines of its own; NOTICE has the crate's licence.
+// The original file has no copyright lines of its own; NOTICE has the crate's.
 // ported from src/s2/latlng.rs of s2 0.2.0, changed: the record and its validity alone, by value, with
 // refusals and with radians for `Angle`.
 use crate::reading::read_point;

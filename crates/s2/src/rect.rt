@@ -2,7 +2,7 @@
 // with its refusal number and, beside it, the result that document 01 states; what it does with
 // operands that have been read is in sphere.rt.
 //
-// The original file has no copyright lines of its own; NOTICE has the crate's licence.
+// The original file has no copyright lines of its own; NOTICE has the crate's.
 // ported from src/s2/rect.rs of s2 0.2.0, changed: by value, with refusals; nothing that goes through a
 // point of the sphere, a cap, a cell or an edge; no area, centroid, distance, degrees or printing.
 use crate::latlng::LatLng;
@@ -123,7 +123,8 @@ impl Rect {
         }
     }
 
-    // Construct the minimal bounding rectangle containing the two given points.
+    // Construct a bounding rectangle containing the two given points. Its longitudes are the circle's
+    // from_point_pair, the minimal ones but where rounding hides which way is the shorter (F16).
     pub fn from_point_pair(p1: LatLng, p2: LatLng) -> Answer
         ensures { λ r. ⌜ r ≡ fromPointPair p1 p2 ⌝ }
     {
@@ -282,7 +283,8 @@ impl Rect {
         }
     }
 
-    // Returns the smallest rectangle containing the union of this rectangle and the given rectangle.
+    // Returns a rectangle containing the union of this rectangle and the given rectangle: the smallest
+    // but where the circle's union is not (F16). Over places: union-holds, union-exact.
     pub fn union(self, other: Rect) -> Answer
         ensures { λ r. ⌜ r ≡ union self other ⌝ }
     {
@@ -294,9 +296,9 @@ impl Rect {
         }
     }
 
-    // Returns the smallest rectangle containing the intersection of this rectangle and the given
-    // rectangle. Note that the region of intersection may consist of two disjoint rectangles, in which
-    // case a single rectangle spanning both of them is returned.
+    // Returns a rectangle containing the intersection of this rectangle and the given rectangle. Note
+    // that the region of intersection may consist of two disjoint rectangles, in which case a single
+    // rectangle spanning both of them is returned. Over places: intersection-holds, intersection-within.
     pub fn intersection(self, other: Rect) -> Answer
         ensures { λ r. ⌜ r ≡ intersection self other ⌝ }
     {

@@ -1,7 +1,7 @@
 // What the operations of rect.rt do once their operands have been read, in the Rust's own order: part by
 // part, by the line interval of the latitude and the circle interval of the longitude.
 //
-// The original file has no copyright lines of its own; NOTICE has the crate's licence.
+// The original file has no copyright lines of its own; NOTICE has the crate's.
 // ported from src/s2/rect.rs of s2 0.2.0, changed: functions of rectangles by value, with radians for
 // `Angle`; a latlng at longitude -PI makes [PI, PI], and an empty rectangle is its own polar closure.
 use crate::latlng::LatLng;

@@ -2,3 +2,5 @@ pub mod Records
 pub mod Streams
 pub mod Answers
 pub mod Laws
+pub mod Settled
+pub mod Every

@@ -1,18 +1,126 @@
--- What a record's definition means: a whole record has 34 bytes, and its number and values are document 01's. Assumes nothing.
-use mathlib.Core.Path.{_≡_, refl}
-use mathlib.Core.Bool.{Bool, true, false, _&&_}
-use mathlib.Core.List.{List}
-use Prim.Native.Nat.{ℕ, _≤_}
+-- What one record means. A short one or a wrong mark is 7; a whole one is refused as every operation refuses its rectangle, or is that rectangle as it is
+-- read: valid, and with no negative zero. Number and values leave one record only. By the definitions' own cases. Assumes nothing.
+use mathlib.Core.Path.{_≡_, refl, sym, ap, _∙_, subst}
+use mathlib.Core.Bool.{Bool, true, false, cond}
+use mathlib.Core.List.{List, [], _∷_}
+use Prim.Native.Nat.{ℕ, zero, suc, _≤_, _<_}
+use native.Mathlib.Omega.{arith}
+use borrow.Author.Tests.{leb-true, lt-leb, eq-eqb, ne-eqb, eqb-true}
 use lib.ListN.{length, getD}
-use lib.Dec.{leb}
-use borrow.Author.Tests.{leb-true}
-use Rattle.stream.specs.Records.{whole, isMark}
+use lib.Dec.{T, leb, eqb}
+use lib.Ieee.{nan, binary64, fits, nanBits, ofBits}
+use lib.Ieee.Bits.{ofBits-fits}
+use Rattle.order.proofs.Ranks.{and-l, and-r, and-off}
+use Rattle.bits.specs.Pattern.{ofPattern}
+use Rattle.consts.specs.Refusal.{number, accepted, badRecord, firstRefusal}
+use Rattle.s2.specs.declared.rect.Rect.{Rect}
+use Rattle.s2.specs.Places.{Valid}
+use Rattle.s2.specs.Reading.{asRead, readOne}
+use Rattle.s2.proofs.Readings.{valid-read}
+use Rattle.region.specs.CommonRegion.{All}
+use Rattle.region.specs.Answers.{rectsOf, numbers, asReadAll, firstRefused}
+use Rattle.region.proofs.Accepted.{all-valid}
+use Rattle.region.proofs.Listed.{read-all}
+use Rattle.stream.specs.declared.record.Record.{Record}
+use Rattle.stream.specs.declared.record.Record.the-variants.{Rectangle, Refused}
+use Rattle.stream.specs.Records.{isMark, wordAt, doubleAt, whole, rectOf, numberOf, valuesOf, recordNumber, recordValues, IsRecord}
 
--- the first of two tests that both hold
-first : (a b : Bool) → (a && b) ≡ true → a ≡ true
-first true b e = refl
-first false b e = e
-
+-- ---- a whole record
 pub whole-long : (s : List ℕ) → whole s ≡ true → 34 ≤ length s
 unfolding whole
-whole-long s e = leb-true 34 (length s) (first (leb 34 (length s)) (isMark (getD s 0 0) (getD s 1 0)) e)
+whole-long s e = leb-true 34 (length s) (and-l _ _ e)
+
+pub whole-mark : (s : List ℕ) → whole s ≡ true → (getD s 0 0 ≡ 0x52) × (getD s 1 0 ≡ 0x31)
+unfolding whole isMark
+whole-mark s e =
+    let m = and-r (leb 34 (length s)) _ e in
+    (eqb-true (getD s 0 0) 0x52 (and-l _ _ m), eqb-true (getD s 1 0) 0x31 (and-r (eqb (getD s 0 0) 0x52) _ m))
+
+-- ---- its number
+pub short-refused : (s : List ℕ) → length s < 34 → numberOf s ≡ number badRecord
+unfolding numberOf whole
+short-refused s h = simp (lt-leb 34 (length s) h)
+
+pub mark-refused : (s : List ℕ) → isMark (getD s 0 0) (getD s 1 0) ≡ false → numberOf s ≡ number badRecord
+unfolding numberOf whole
+mark-refused s h = rw (and-off (leb 34 (length s)) (isMark (getD s 0 0) (getD s 1 0)) h) refl
+
+pub whole-number : (s : List ℕ) → whole s ≡ true → numberOf s ≡ readOne (rectOf s) .refusal
+unfolding numberOf
+whole-number s h = simp h
+
+-- and its values: the rectangle as it is read, or none
+pub taken-values : (s : List ℕ) → numberOf s ≡ number accepted → valuesOf s ≡ asRead (rectOf s) ∷ []
+unfolding valuesOf
+taken-values s h = simp (eq-eqb (numberOf s) 0 h)
+
+pub no-values : (s : List ℕ) → (numberOf s ≡ number accepted → ⊥) → valuesOf s ≡ []
+unfolding valuesOf
+no-values s h = simp (ne-eqb (numberOf s) 0 h)
+
+-- ---- one that is taken is whole, and its rectangle valid
+pub taken-whole : (s : List ℕ) → numberOf s ≡ number accepted → (whole s ≡ true) × (readOne (rectOf s) .refusal ≡ number accepted)
+unfolding numberOf
+taken-whole s h = go (whole s) h
+  where
+    go : (w : Bool) → cond w (readOne (rectOf s) .refusal) (number badRecord) ≡ number accepted → (w ≡ true) × (readOne (rectOf s) .refusal ≡ number accepted)
+    go true e = (refl, e)
+    go false e = absurd (omega arith)
+
+double-fits : (s : List ℕ) (at : ℕ) → T (fits binary64 (doubleAt s at))
+unfolding doubleAt ofPattern fits
+double-fits s at = go (nanBits binary64 (wordAt s at))
+  where
+    go : (b : Bool) → T (fits binary64 (cond b nan (ofBits binary64 (wordAt s at))))
+    go true = tt
+    go false = ofBits-fits binary64 (wordAt s at)
+
+pub taken-valid : (s : List ℕ) → numberOf s ≡ number accepted → Valid (rectOf s)
+unfolding rectOf numbers rectsOf firstRefused firstRefusal
+taken-valid s h = all-valid (numbers (rectOf s ∷ [])) doubles (simp (taken-whole s h .1)) .0
+  where
+    doubles : (i : ℕ) → T (fits binary64 (getD (numbers (rectOf s ∷ [])) i nan))
+    doubles zero = double-fits s 2
+    doubles (suc zero) = double-fits s 10
+    doubles (suc (suc zero)) = double-fits s 18
+    doubles (suc (suc (suc zero))) = double-fits s 26
+    doubles (suc (suc (suc (suc i)))) = unfold fits in tt
+
+-- ---- what is handed out is valid and has no negative zero
+pub record Plain (r : Rect) : Type 0 where
+  pub is-valid : Valid r
+  pub as-read : asRead r ≡ r
+
+plain-values : (s : List ℕ) → All Plain (valuesOf s)
+unfolding valuesOf asReadAll
+plain-values s = go (eqb (numberOf s) 0) (eqb-true (numberOf s) 0)
+  where
+    go : (b : Bool) → (b ≡ true → numberOf s ≡ 0) → All Plain (cond b (asRead (rectOf s) ∷ []) [])
+    go true f = (record { is-valid = valid-read (taken-valid s (f refl)); as-read = read-all (rectOf s ∷ []) .0 }, tt)
+    go false f = tt
+
+pub record-plain : (s : List ℕ) (x : Record) → IsRecord s x → All Plain (recordValues x)
+record-plain s x i = subst (All Plain) (sym (i .values-are)) (plain-values s)
+
+-- ---- the case that is answered
+pub is-taken : (s : List ℕ) (x : Record) (r : Rect) → IsRecord s x → x ≡ Rectangle r → (numberOf s ≡ number accepted) × (valuesOf s ≡ r ∷ [])
+unfolding recordNumber recordValues
+is-taken s x r i e = (sym (i .number-is) ∙ ap recordNumber e, sym (i .values-are) ∙ ap recordValues e)
+
+pub is-refused : (s : List ℕ) (x : Record) (n : ℕ) → IsRecord s x → x ≡ Refused n → numberOf s ≡ number accepted → ⊥
+unfolding recordValues
+is-refused s x n i e h = clash (asRead (rectOf s)) (sym (taken-values s h) ∙ sym (i .values-are) ∙ ap recordValues e)
+  where
+    clash : (r : Rect) → r ∷ [] ≡ [] → ⊥
+    clash r e = let z : _≡_ {A = ℕ} 1 0 = ap (length {A = Rect}) e in omega arith
+
+-- two records that the contract of `read_record` allows coincide
+pub one-record : (s : List ℕ) (x y : Record) → IsRecord s x → IsRecord s y → x ≡ y
+unfolding recordNumber recordValues
+one-record s x y p q = same x y (p .number-is ∙ sym (q .number-is)) (p .values-are ∙ sym (q .values-are))
+  where
+    same : (x y : Record) → recordNumber x ≡ recordNumber y → recordValues x ≡ recordValues y → x ≡ y
+    same (Rectangle r) (Rectangle o) n v = cc
+    same (Rectangle r) (Refused m) n v = absurd (let z : _≡_ {A = ℕ} 1 0 = ap (length {A = Rect}) v in omega arith)
+    same (Refused k) (Rectangle o) n v = absurd (let z : _≡_ {A = ℕ} 0 1 = ap (length {A = Rect}) v in omega arith)
+    same (Refused k) (Refused m) n v = ap Refused n

@@ -1,23 +1,24 @@
 -- How a stream is read, record by record: what one turn of the loop does to the numbers gathered so far and the bytes that are left, and how it ends.
 -- Each law is by the definition's own cases. Assumes nothing.
 use mathlib.Core.Path.{_≡_, refl, sym, ap, _∙_, subst}
-use mathlib.Core.Bool.{Bool, true, false, not, cond, false≢true}
+use mathlib.Core.Bool.{Bool, true, false, cond}
 use mathlib.Core.List.{List, [], _∷_, _++_, append-assoc, append-nil}
 use Prim.Native.Nat.{ℕ, zero, suc, _+_, _-_, _*_, _≤_, _<_}
 use native.Mathlib.Omega.{arith}
 use native.Mathlib.Numerals.{add-one}
 use lib.ListN.{length, take, drop, length-append, length-drop}
 use lib.Seq.{drop-drop, sets, sets-eq, length-sets, take-at, take-all, length-take-le}
+use borrow.Author.Tests.{ne-eqb}
 use lib.Dec.{eqb}
 use lib.Ieee.{Float}
-use Rattle.consts.specs.Refusal.{given}
 use Rattle.s2.specs.declared.rect.Rect.{Rect}
-use Rattle.s2.specs.Reading.{readOne}
+use Rattle.region.specs.Answers.{numbers}
 use Rattle.stream.specs.declared.record.Record.{Record}
 use Rattle.stream.specs.declared.record.Record.the-variants.{Rectangle, Refused}
 use Rattle.stream.specs.declared.gather.Gathered.{Gathered}
-use Rattle.stream.specs.Records.{whole, judged, rectOf, recordOf, recordNumber}
-use Rattle.stream.specs.Stream.{Stream, Numbers, Fault, after, next, overNumber, readFrom, streamOf, numbersOf, placed, endedWith, gathered}
+use Rattle.stream.specs.Records.{whole, numberOf, valuesOf, recordNumber, IsRecord}
+use Rattle.stream.specs.Stream.{Stream, Numbers, Fault, after, next, overNumber, readFrom, streamOf, placed, endedWith, gathered}
+use Rattle.stream.proofs.Records.{is-taken, is-refused}
 
 -- ---- lists of numbers in front
 pub after-none : (x : Stream) → after [] x ≡ x
@@ -35,39 +36,15 @@ rest-of s at = take-all (length s - at) (drop at s) (omega (arith, length-drop a
 
 -- the record that is read of it
 abbrev pub IsRead : Record → List ℕ → ℕ → Type 0
-IsRead x s k = x ≡ recordOf (take (length s - 34 * k) (drop (34 * k) s))
+IsRead x s k = IsRecord (take (length s - 34 * k) (drop (34 * k) s)) x
 
-is-read : (x : Record) (s : List ℕ) (k : ℕ) → IsRead x s k → x ≡ recordOf (drop (34 * k) s)
-is-read x s k e = e ∙ ap recordOf (rest-of s (34 * k))
+is-read : (x : Record) (s : List ℕ) (k : ℕ) → IsRead x s k → IsRecord (drop (34 * k) s) x
+is-read x s k i = subst (λ (t : List ℕ). IsRecord t x) (rest-of s (34 * k)) i
 
-pub one-more : (n : ℕ) (t : List ℕ) → 0 < length t → readFrom (suc n) t ≡ next (recordOf t) (readFrom n (drop 34 t))
+pub one-more : (n : ℕ) (t : List ℕ) → 0 < length t → readFrom (suc n) t ≡ next (numberOf t) (valuesOf t) (readFrom n (drop 34 t))
 unfolding readFrom
 one-more n [] h = absurd (omega arith)
 one-more n (b ∷ t) h = refl
-
--- a refused record has a number: it is never 0
-abbrev numbered : Record → Bool
-numbered (Rectangle r) = true
-numbered (Refused n) = not (eqb n 0)
-
-all-numbered : (t : List ℕ) → numbered (recordOf t) ≡ true
-unfolding recordOf judged
-all-numbered t = go (whole t)
-  where
-    held : (k : ℕ) (b : Bool) → eqb k 0 ≡ b → numbered (cond b (Rectangle (rectOf t)) (Refused k)) ≡ true
-    held k true d = refl
-    held k false d = ap not d
-
-    go : (w : Bool) → numbered (cond w (given (readOne (rectOf t) .refusal) (Rectangle (rectOf t)) (Refused (readOne (rectOf t) .refusal))) (Refused 7)) ≡ true
-    go true = held (readOne (rectOf t) .refusal) (eqb (readOne (rectOf t) .refusal) 0) refl
-    go false = refl
-
-off : (a : Bool) → not a ≡ true → a ≡ false
-off true h = absurd (false≢true h)
-off false h = refl
-
-refused-some : (t : List ℕ) (n : ℕ) → recordOf t ≡ Refused n → eqb n 0 ≡ false
-refused-some t n e = off (eqb n 0) (sym (ap numbered e) ∙ all-numbered t)
 
 -- ---- what stands after the last record that is taken
 pub over-none : (s : List ℕ) → length s ≡ 0 → 0 ≡ overNumber s
@@ -100,18 +77,21 @@ left-some : (s : List ℕ) (k : ℕ) → 34 * k < length s → 0 < length (drop 
 left-some s k h = omega (arith, length-drop (34 * k) s)
 
 -- one more record
-turned : (s : List ℕ) (k : ℕ) → k < 512 → 34 * k < length s →
-    readFrom (512 - k) (drop (34 * k) s) ≡ next (recordOf (drop (34 * k) s)) (readFrom (512 - (k + 1)) (drop (34 * (k + 1)) s))
-turned s k h m =
-    ap (λ (n : ℕ). readFrom n (drop (34 * k) s)) (less-one k h)
-    ∙ one-more (512 - (k + 1)) (drop (34 * k) s) (left-some s k m)
-    ∙ ap (λ (t : List ℕ). next (recordOf (drop (34 * k) s)) (readFrom (512 - (k + 1)) t)) (drop-drop 34 (34 * k) s ∙ ap (λ (n : ℕ). drop n s) (more k))
+turned : (s : List ℕ) (l : List Float) (k : ℕ) → k < 512 → 34 * k < length s → Held s l k →
+    streamOf s ≡ after (take (4 * k) l) (next (numberOf (drop (34 * k) s)) (valuesOf (drop (34 * k) s)) (readFrom (512 - (k + 1)) (drop (34 * (k + 1)) s)))
+turned s l k h m held =
+    let t : List ℕ = drop (34 * k) s in
+    held
+    ∙ ap (after (take (4 * k) l))
+    (ap (λ (n : ℕ). readFrom n t) (less-one k h)
+    ∙ one-more (512 - (k + 1)) t (left-some s k m)
+    ∙ ap (λ (u : List ℕ). next (numberOf t) (valuesOf t) (readFrom (512 - (k + 1)) u)) (drop-drop 34 (34 * k) s ∙ ap (λ (n : ℕ). drop n s) (more k)))
   where
     more : (k : ℕ) → 34 * k + 34 ≡ 34 * (k + 1)
     more k = omega arith
 
-placed-is : (at : ℕ) (r : Rect) (l : List Float) → placed at r l ≡ sets l at (numbersOf r)
-unfolding placed
+placed-is : (at : ℕ) (r : Rect) (l : List Float) → placed at r l ≡ sets l at (numbers (r ∷ []))
+unfolding placed numbers
 placed-is at r l = rw (add-one at, two at, three at) refl
   where
     two : (n : ℕ) → n + 2 ≡ suc (suc n)
@@ -120,33 +100,31 @@ placed-is at r l = rw (add-one at, two at, three at) refl
     three : (n : ℕ) → n + 3 ≡ suc (suc (suc n))
     three n = omega arith
 
-taken : (k : ℕ) (r : Rect) (l : List Float) → k < 512 → length l ≡ 2048 → take (4 * (k + 1)) (placed (4 * k) r l) ≡ take (4 * k) l ++ numbersOf r
+taken : (k : ℕ) (r : Rect) (l : List Float) → k < 512 → length l ≡ 2048 → take (4 * (k + 1)) (placed (4 * k) r l) ≡ take (4 * k) l ++ numbers (r ∷ [])
+unfolding numbers
 taken k r l h e =
-    ap (take (4 * (k + 1))) (placed-is (4 * k) r l ∙ sets-eq (numbersOf r) l (4 * k) (omega (arith, e)))
-    ∙ take-at (take (4 * k) l ++ numbersOf r) (drop (4 * k + 4) l) (4 * (k + 1)) (omega (arith, e, length-append (take (4 * k) l) (numbersOf r), length-take-le (4 * k) l (omega (arith, e))))
-
-turned-by : (s : List ℕ) (l : List Float) (k : ℕ) (x y : Record) → k < 512 → 34 * k < length s → IsRead x s k → x ≡ y → Held s l k →
-    streamOf s ≡ after (take (4 * k) l) (next y (readFrom (512 - (k + 1)) (drop (34 * (k + 1)) s)))
-turned-by s l k x y h m is case held =
-    held ∙ ap (after (take (4 * k) l)) (turned s k h m ∙ ap (λ (z : Record). next z (readFrom (512 - (k + 1)) (drop (34 * (k + 1)) s))) (sym (is-read x s k is) ∙ case))
+    ap (take (4 * (k + 1))) (placed-is (4 * k) r l ∙ sets-eq (numbers (r ∷ [])) l (4 * k) (omega (arith, e)))
+    ∙ take-at (take (4 * k) l ++ numbers (r ∷ [])) (drop (4 * k + 4) l) (4 * (k + 1)) (omega (arith, e, length-append (take (4 * k) l) (numbers (r ∷ [])), length-take-le (4 * k) l (omega (arith, e))))
 
 pub good : (s : List ℕ) (l l' : List Float) (k : ℕ) (x : Record) (r : Rect) → k < 512 → 34 * k < length s → length l ≡ 2048 → IsRead x s k → x ≡ Rectangle r → l' ≡ placed (4 * k) r l →
     Held s l k → Held s l' (k + 1)
 good s l l' k x r h m e is case placed-so held =
     let rest : Stream = readFrom (512 - (k + 1)) (drop (34 * (k + 1)) s) in
-    turned-by s l k x (Rectangle r) h m is case held
-    ∙ after-after (take (4 * k) l) (numbersOf r) rest
+    let i = is-taken (drop (34 * k) s) x r (is-read x s k is) case in
+    turned s l k h m held
+    ∙ rw (i .0, i .1) refl
+    ∙ after-after (take (4 * k) l) (numbers (r ∷ [])) rest
     ∙ ap (λ (p : List Float). after p rest) (sym (taken k r l h e) ∙ ap (take (4 * (k + 1))) (sym placed-so))
 
 pub placed-length : (l l' : List Float) (at n : ℕ) (r : Rect) → l' ≡ placed at r l → length l ≡ n → length l' ≡ n
-placed-length l l' at n r e h = ap length (e ∙ placed-is at r l) ∙ length-sets l at (numbersOf r) ∙ h
+placed-length l l' at n r e h = ap length (e ∙ placed-is at r l) ∙ length-sets l at (numbers (r ∷ [])) ∙ h
 
 pub bad : (s : List ℕ) (l : List Float) (k : ℕ) (x : Record) (n m : ℕ) → k < 512 → 34 * k < length s → IsRead x s k → x ≡ Refused n → m ≡ recordNumber x →
     Held s l k → streamOf s ≡ gathered (record { refusal = m; count = 0 }) l
-unfolding recordNumber
 bad s l k x n m h at is case number-so held =
-    turned-by s l k x (Refused n) h at is case held
-    ∙ sym (rw (number-so ∙ ap recordNumber case, refused-some (drop (34 * k) s) n (sym (is-read x s k is) ∙ case)) refl)
+    let i = is-read x s k is in
+    turned s l k h at held
+    ∙ sym (rw (number-so ∙ i .number-is, ne-eqb (numberOf (drop (34 * k) s)) 0 (is-refused (drop (34 * k) s) x n i case)) refl)
 
 none-left : (n : ℕ) (p : List Float) (t : List ℕ) → 0 < n → length t ≡ 0 → after p (readFrom n t) ≡ Numbers p
 unfolding readFrom

@@ -4,8 +4,9 @@ use mathlib.Core.Bool.{true}
 use mathlib.Core.List.{List}
 use Prim.Native.Nat.{ℕ}
 use lib.Ieee.{Float}
-use Rattle.consts.specs.Refusal.{number, accepted}
-use Rattle.region.specs.Answers.{rectsOf, numbers, piecesOf, wholeList, firstRefused}
+use Rattle.s2.specs.Places.{Valid}
+use Rattle.region.specs.CommonRegion.{All}
+use Rattle.region.specs.Answers.{rectsOf, numbers, piecesOf, wholeList}
 use Rattle.text.specs.Text.{piecesText, refusedText}
 use Rattle.stream.specs.Stream.{Stream, Numbers, Fault, streamOf}
 
@@ -23,4 +24,4 @@ answerText s = textOf (streamOf s)
 -- a list that `common_region` accepts
 pub record Taken (l : List Float) : Type 0 where
   pub is-whole : wholeList l ≡ true
-  pub none-refused : firstRefused (rectsOf l) ≡ number accepted
+  pub all-valid : All Valid (rectsOf l)

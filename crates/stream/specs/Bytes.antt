@@ -1,5 +1,5 @@
 -- A stream as its maker writes it: for each rectangle the mark and its four numbers. Definitions only; that reading gives the rectangles back is proved
--- in proofs/Laws.antt.
+-- in proofs/Laws.antt, and that every string of bytes begins so, up to its first fault, in proofs/Every.antt.
 use mathlib.Core.List.{List, [], _∷_, _++_}
 use Prim.Native.Nat.{ℕ, zero, suc, _/_, _%_}
 use lib.Ieee.{Float}

@@ -1,5 +1,6 @@
--- One record of the stream: the mark 52 31, then lat.lo, lat.hi, lng.lo, lng.hi as little-endian doubles. Read, it is either a rectangle or a refusal.
--- Definitions only; what they mean is in proofs/Laws.antt.
+-- One record of the stream: the mark 52 31, then lat.lo, lat.hi, lng.lo, lng.hi as little-endian doubles. Read, it is either a rectangle or a refusal:
+-- document 01's number and values for the bytes, and for each case of the enum. Definitions only; what they mean is in proofs/Records.antt.
+use mathlib.Core.Path.{_≡_}
 use mathlib.Core.Bool.{Bool, _&&_, cond}
 use mathlib.Core.List.{List, [], _∷_}
 use Prim.Native.Nat.{ℕ, _+_, _*_}
@@ -12,7 +13,7 @@ use Rattle.r1.specs.Line as line
 use Rattle.s1.specs.Circle as circle
 use Rattle.s2.specs.declared.rect.Rect.{Rect}
 use Rattle.s2.specs.Rect.{box}
-use Rattle.s2.specs.Reading.{readOne}
+use Rattle.s2.specs.Reading.{asRead, readOne}
 use Rattle.stream.specs.declared.record.Record.{Record}
 use Rattle.stream.specs.declared.record.Record.the-variants.{Rectangle, Refused}
 
@@ -44,15 +45,16 @@ whole s = leb 34 (length s) && isMark (getD s 0 0) (getD s 1 0)
 unfoldable pub rectOf : List ℕ → Rect
 rectOf s = box (line.ends (doubleAt s 2) (doubleAt s 10)) (circle.ends (doubleAt s 18) (doubleAt s 26))
 
--- it is taken, or refused with 1 or 2
-unfoldable pub judged : Rect → Record
-judged r = given (readOne r .refusal) (Rectangle r) (Refused (readOne r .refusal))
+-- ---- document 01's number and values for the record at the start of s
+-- 7 where it is short or has a wrong mark; else 1, 2 or 0, as every operation reads its rectangle
+unfoldable pub numberOf : List ℕ → ℕ
+numberOf s = cond (whole s) (readOne (rectOf s) .refusal) (number badRecord)
 
--- the record at the start of s: 7 where it is short or has a wrong mark
-unfoldable pub recordOf : List ℕ → Record
-recordOf s = cond (whole s) (judged (rectOf s)) (Refused (number badRecord))
+-- under 0 the one rectangle as it is read: negative zero is zero; else none
+unfoldable pub valuesOf : List ℕ → List Rect
+valuesOf s = given (numberOf s) (asRead (rectOf s) ∷ []) []
 
--- ---- document 01's number and values for each case
+-- and for each case of the enum
 unfoldable pub recordNumber : Record → ℕ
 recordNumber (Rectangle r) = number accepted
 recordNumber (Refused n) = n
@@ -60,3 +62,8 @@ recordNumber (Refused n) = n
 unfoldable pub recordValues : Record → List Rect
 recordValues (Rectangle r) = r ∷ []
 recordValues (Refused n) = []
+
+-- what `read_record` promises of its answer x to the bytes s
+pub record IsRecord (s : List ℕ) (x : Record) : Type 0 where
+  pub number-is : recordNumber x ≡ numberOf s
+  pub values-are : recordValues x ≡ valuesOf s

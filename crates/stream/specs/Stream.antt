@@ -1,5 +1,5 @@
 -- What a stream of records means: the numbers of its rectangles as one list, or the refusal of its first fault. Definitions only; the laws are in
--- proofs/Streams.antt.
+-- proofs/Laws.antt.
 use mathlib.Core.Path.{_≡_}
 use mathlib.Core.Bool.{cond}
 use mathlib.Core.List.{List, [], _∷_, _++_}
@@ -8,13 +8,12 @@ use lib.ListN.{take, drop, set}
 use lib.Ieee.{Float}
 use Rattle.consts.specs.Refusal.{number, accepted, badList, badRecord, given}
 use Rattle.s2.specs.declared.rect.Rect.{Rect}
-use Rattle.stream.specs.declared.record.Record.{Record}
-use Rattle.stream.specs.declared.record.Record.the-variants.{Rectangle, Refused}
+use Rattle.region.specs.Answers.{numbers}
 use Rattle.stream.specs.declared.gather.Gathered.{Gathered}
-use Rattle.stream.specs.Records.{whole, recordOf}
+use Rattle.stream.specs.Records.{whole, numberOf, valuesOf}
 
 pub data Stream : Type 0 where
-  -- every record is a rectangle: lat.lo, lat.hi, lng.lo, lng.hi of each
+  -- every record is a rectangle: lat.lo, lat.hi, lng.lo, lng.hi of each, as it is read
   Numbers : List Float → Stream
   -- the first fault, by document 01's number
   Fault : ℕ → Stream
@@ -24,14 +23,9 @@ abbrev pub after : List Float → Stream → Stream
 after l (Numbers m) = Numbers (l ++ m)
 after l (Fault n) = Fault n
 
--- a rectangle's numbers, as a list of rectangles has them
-abbrev pub numbersOf : Rect → List Float
-numbersOf r = r .lat .lo ∷ (r .lat .hi ∷ (r .lng .lo ∷ (r .lng .hi ∷ [])))
-
--- a record, and what the rest comes to
-abbrev pub next : Record → Stream → Stream
-next (Rectangle r) rest = after (numbersOf r) rest
-next (Refused n) rest = Fault n
+-- a record by its number and values, and what the rest comes to
+abbrev pub next : ℕ → List Rect → Stream → Stream
+next n rs rest = given n (after (numbers rs) rest) (Fault n)
 
 -- after the last record that is taken: nothing; one too many where it is whole and has a right mark, whatever its numbers; else no record
 unfoldable pub overNumber : List ℕ → ℕ
@@ -42,7 +36,7 @@ overNumber (b ∷ s) = cond (whole (b ∷ s)) (number badList) (number badRecord
 unfoldable pub readFrom : ℕ → List ℕ → Stream
 readFrom zero s = given (overNumber s) (Numbers []) (Fault (overNumber s))
 readFrom (suc n) [] = Numbers []
-readFrom (suc n) (b ∷ s) = next (recordOf (b ∷ s)) (readFrom n (drop 34 (b ∷ s)))
+readFrom (suc n) (b ∷ s) = next (numberOf (b ∷ s)) (valuesOf (b ∷ s)) (readFrom n (drop 34 (b ∷ s)))
 
 -- up to 512 records
 unfoldable pub streamOf : List ℕ → Stream

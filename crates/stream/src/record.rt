@@ -6,14 +6,17 @@ use s1::interval::Interval as Circle;
 use s2::reading::read_one;
 use s2::rect::Rect;
 ghost use mathlib.Core.Path.{_≡_};
+ghost use mathlib.Core.List.{[], _∷_};
 ghost use Prim.Native.Nat.{_+_, _≤_};
 ghost use lib.ListN.{length};
-ghost use Rattle.stream.specs.Records.{isMark, isSecond, joined, doubleAt, rectOf, judged, whole, recordOf, recordNumber};
+ghost use Rattle.consts.specs.Refusal.{given};
+ghost use Rattle.s2.specs.Reading.{asRead, readOne};
+ghost use Rattle.stream.specs.Records.{isMark, isSecond, joined, doubleAt, rectOf, whole, recordNumber, recordValues, IsRecord};
 
 // How many bytes a record has.
 const SIZE: usize = 34;
 
-// A record as it is read: a rectangle that can be taken, its numbers as they came, or why there is none.
+// A record as it is read: a rectangle that can be taken, with no negative zero, or why there is none.
 pub enum Record {
     Rectangle(Rect),
     Refused(u8),
@@ -97,13 +100,15 @@ fn rect_of(s: &[u8]) -> Rect
 }
 
 // A rectangle as every operation on one reads it: 1 where a number is out of reach, 2 where it is not
-// valid.
+// valid; else itself, with negative zero read as zero.
 fn judge(r: Rect) -> Record
-    ensures { λ x. ⌜ x ≡ judged r ⌝ }
+    ensures { λ x. ⌜ recordNumber x ≡ readOne r .refusal ⌝ }
+    ensures { λ x. ⌜ recordValues x ≡ given (readOne r .refusal) (asRead r ∷ []) [] ⌝ }
 {
     let x = read_one(r);
+    let v = x.value;
     if x.refusal == ACCEPTED {
-        return Record::Rectangle(r);
+        return Record::Rectangle(v);
     }
     Record::Refused(x.refusal)
 }
@@ -118,9 +123,10 @@ pub(crate) fn is_record(s: &[u8]) -> bool
     is_mark(s[0], s[1])
 }
 
-// The record that stands at the start of s.
+// The record that stands at the start of s: document 01's number and values for these bytes, which no other
+// record has (one-record).
 pub fn read_record(s: &[u8]) -> Record
-    ensures { λ r. ⌜ r ≡ recordOf (now (s .entry)) ⌝ }
+    ensures { λ r. ⌜ IsRecord (now (s .entry)) r ⌝ }
 {
     if is_record(s) {
         return judge(rect_of(s));

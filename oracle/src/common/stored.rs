@@ -58,6 +58,7 @@ pub fn lines(rng: &mut Rng) -> Vec<Vec<u8>> {
     asked.extend(longest().into_iter().map(beside::Asked::Common));
     let mut lines: Vec<Vec<u8>> = asked.iter().map(|asked| plan::written_beside(rng, asked)).collect();
     lines.extend(no_questions(rng));
+    lines.push(plan::written_beside(rng, &beside::Asked::Common(nested())));
     lines
 }
 
@@ -150,6 +151,14 @@ fn longest() -> Vec<Asked> {
     zones[MOST_RECTS - 1] = zone([0.5, 3.0]);
     let too_many = vec![FULL; MOST_RECTS + 1];
     vec![fitting(&notched), fitting(&zones), fitting(&too_many)]
+}
+
+/// More arcs across the seam than are sorted at once, each starting in the one before it; the last one twice.
+/// There is one piece, and room for another.
+fn nested() -> Asked {
+    let mut zones: Vec<Rect> = (0..64).map(|at| zone([1.0 + f64::from(at) / 64.0, -1.0])).collect();
+    zones.push(zones[63]);
+    Asked { room: 8, numbers: zones.concat() }
 }
 
 /// Lines that are no question: rooms, bars and lists of the wrong form, and the kinds that any line has.

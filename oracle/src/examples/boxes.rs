@@ -6,11 +6,12 @@ use crate::boxes::{MOST_BYTES, MOST_LINES};
 type Worked = (String, Vec<u8>, String);
 
 const SHORT: &[(&str, &str)] = &[
-    // no line at all is the whole globe; an empty line is bad text
-    ("", "[-180,-90,180,90];"),
+    // no line at all is bad text, and so is an empty line; the whole globe is a line like any other
+    ("", "refused 8;"),
     (";", "refused 8 at 1;"),
     (";;", "refused 8 at 1;"),
     ("[1,2,3,4];;", "refused 8 at 2;"),
+    ("[-180,-90,180,90];", "[-180,-90,180,90];"),
     // the last line may lack its newline
     ("[1,2,3,4]", "[1,2,3,4];"),
     ("[1,2,3,4];", "[1,2,3,4];"),

@@ -1,4 +1,4 @@
-//! Worked answers for the circle interval. F1 to F14 are natural-looking statements that are false for
+//! Worked answers for the circle interval. F1 to F17 are natural-looking statements that are false for
 //! the crate, and so for the port; each has the case that refutes it.
 
 use super::Worked;
@@ -96,6 +96,12 @@ pub const WORKED: Worked = &[
     ("s1.add C004EAB490913EB9 C004EAB490913EB9 3FE0DD1B0ECBB97E", "0 3FE0DD1B0ECBB97E C004EAB490913EB9"),
     ("s1.from_point_pair 0.0 PI", "0 0.0 PI"),
     ("s1.from_point_pair PI 0.0", "0 PI 0.0"),
+    // F16: neither `union` nor growth nor a point pair is always the smallest interval
+    ("s1.union PI PI 3CA0000000000000 3CA0000000000000", "0 PI 3CA0000000000000"),
+    ("s1.add PI PI 3CA0000000000000", "0 PI 3CA0000000000000"),
+    ("s1.from_point_pair PI 3CA0000000000000", "0 PI 3CA0000000000000"),
+    // F17: a union's length may be below its operands': this one's is -1 (F1)
+    ("s1.union C00921FB54442D17 C00921FB54442D17 PI PI", "0 PI C00921FB54442D17"),
     // F14: intersection is neither associative nor monotone, nor within the first
     ("s1.intersection 0.0 0.0 1.0 -1.0", "0 PI -PI"),
     ("s1.intersection 1.0 -1.0 -1.0 1.0", "0 -1.0 1.0"),

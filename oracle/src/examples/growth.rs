@@ -3,16 +3,18 @@
 use super::Worked;
 
 pub const WORKED: Worked = &[
-    // an empty list: growth reads the start's zeros, the running box keeps its bits
+    // an empty list: the start as it is read, or refused, for both alike
     ("growth 0.0 1.0 0.0 1.0 |", "0 0.0 1.0 0.0 1.0"),
     ("growth -0.0 1.0 -0.0 1.0 |", "0 0.0 1.0 0.0 1.0"),
     ("growth 0.5 -0.0 PI -PI |", "0 0.5 0.0 PI -PI"),
-    ("scan -0.0 1.0 -0.0 1.0 |", "0 -0.0 1.0 -0.0 1.0"),
-    ("scan 0.5 -0.0 PI -PI |", "0 0.5 -0.0 PI -PI"),
+    ("scan 0.0 1.0 0.0 1.0 |", "0 0.0 1.0 0.0 1.0"),
+    ("scan -0.0 1.0 -0.0 1.0 |", "0 0.0 1.0 0.0 1.0"),
+    ("scan 0.5 -0.0 PI -PI |", "0 0.5 0.0 PI -PI"),
     ("growth 2.0 -0.0 0.0 1.0 |", "2 1.0 0.0 PI -PI"),
-    ("scan 2.0 -0.0 0.0 1.0 |", "0 2.0 -0.0 0.0 1.0"),
+    ("scan 2.0 -0.0 0.0 1.0 |", "2 1.0 0.0 PI -PI"),
     ("growth FFFFFFFFFFFFFFFF 2.0 0.0 1.0 |", "1 1.0 0.0 PI -PI"),
-    ("scan FFFFFFFFFFFFFFFF 2.0 0.0 1.0 |", "0 7FF8000000000000 2.0 0.0 1.0"),
+    ("scan FFFFFFFFFFFFFFFF 2.0 0.0 1.0 |", "1 1.0 0.0 PI -PI"),
+    ("scan 7FF8000000000000 1.0 0.0 1.0 |", "1 1.0 0.0 PI -PI"),
     // document 01: EMPTY grown by -PI is [PI, PI]; [0, 1] grown by 4 is refused with 3
     ("growth 1.0 0.0 PI -PI | 0.5 -PI", "0 0.5 0.5 PI PI"),
     ("growth 0.0 1.0 0.0 1.0 | 0.5 4.0", "3 0.0 1.0 0.0 1.0"),
@@ -40,16 +42,23 @@ pub const WORKED: Worked = &[
     ("scan -0.0 1.0 0.0 1.0 | 0.5 2.0 0.5 7FF8000000000000 0.5 -1.0", "3 0.0 1.0 -1.0 2.0"),
     ("scan -0.0 1.0 0.0 1.0 | 0.5 2.0 0.5 -1.0 3FF921FB54442D19 0.0", "3 0.0 1.0 -1.0 2.0"),
     ("scan -0.0 1.0 -0.0 1.0 | 2.0 0.0 0.5 4.0", "3 -0.0 1.0 -0.0 1.0"),
-    // the start before any point, 1 before 2 in it; the running box keeps what it cannot grow
+    // the running box that nothing enlarged keeps its bits, with one bad point or more
+    ("scan -0.0 1.0 -0.0 1.0 | 0.5 4.0", "3 -0.0 1.0 -0.0 1.0"),
+    ("scan 0.5 -0.0 PI -PI | 7FF8000000000000 0.0", "3 0.5 -0.0 PI -PI"),
+    // the start before any point, 1 before 2 in it
     ("growth -0.0 2.0 -0.0 1.0 | 2.0 0.0", "2 1.0 0.0 PI -PI"),
     ("growth 2.0 2.0 0.0 7FF0000000000000 | 2.0 0.0", "1 1.0 0.0 PI -PI"),
-    ("scan -0.0 2.0 -0.0 1.0 | 2.0 0.0 0.5 0.5", "2 -0.0 2.0 -0.0 1.0"),
-    ("scan 2.0 2.0 -0.0 7FF0000000000000 | 0.5 0.5", "1 2.0 2.0 -0.0 7FF0000000000000"),
+    ("scan -0.0 2.0 -0.0 1.0 | 0.5 0.5", "2 1.0 0.0 PI -PI"),
+    ("scan -0.0 2.0 -0.0 1.0 | 2.0 0.0 0.5 0.5", "2 1.0 0.0 PI -PI"),
+    ("scan 2.0 2.0 -0.0 7FF0000000000000 | 0.5 0.5", "1 1.0 0.0 PI -PI"),
+    ("scan 7FF8000000000000 1.0 0.0 1.0 | 0.5 4.0", "1 1.0 0.0 PI -PI"),
+    ("scan 7FF8000000000000 1.0 0.0 1.0 | 0.5 0.5", "1 1.0 0.0 PI -PI"),
     // the length before all of it, and the start keeps its bits
     ("growth -0.0 1.0 -0.0 1.0 | 0.5", "5 -0.0 1.0 -0.0 1.0"),
     ("growth -0.0 2.0 -0.0 7FF0000000000000 | 0.5 4.0 0.5", "5 -0.0 2.0 -0.0 7FF0000000000000"),
     ("scan -0.0 1.0 -0.0 1.0 | 0.5 0.5 0.5", "5 -0.0 1.0 -0.0 1.0"),
     ("scan -0.0 2.0 -0.0 1.0 | 0.5", "5 -0.0 2.0 -0.0 1.0"),
+    ("scan 7FF8000000000000 1.0 -0.0 1.0 | 0.5 4.0 0.5", "5 7FF8000000000000 1.0 -0.0 1.0"),
     // what is no question
     ("growth", "?"),
     ("growth |", "?"),

@@ -39,23 +39,46 @@ const CASES: &[(&str, &str)] = &[
     ("first fault again", "refused 1"),
 ];
 
+/// The same of the records that are read by themselves.
+const RECORDS: &[(&str, &str)] = &[
+    ("record zeros", "pieces 1; 0.0 0.0 0.0 0.0"),
+    ("record zero west", "pieces 1; 0.0 1.0 0.0 1.0"),
+    ("record empty", "pieces 1; 1.0 0.0 PI -PI"),
+    ("record nan", "refused 1"),
+    ("record not valid", "refused 2"),
+    ("record mark", "refused 7"),
+    ("record short", "refused 7"),
+    ("record and more", "pieces 1; 0.0 1.0 -1.0 1.0"),
+];
+
 /// A stream's name, its bytes, and what is expected.
 pub type Worked = (String, Vec<u8>, String);
 
-/// All worked streams. An entry without a case is one that expects nothing, and so is at fault.
+/// All worked streams.
 pub fn worked() -> Vec<Worked> {
-    let cases = cases::all();
-    let unmet = CASES.iter().filter(|(entry, _)| !cases.iter().any(|(label, _)| meets(label, entry)));
-    let mut worked: Vec<Worked> =
-        unmet.map(|(entry, _)| (format!("(no case {entry})"), Vec::new(), String::new())).collect();
-    worked.extend(cases.iter().map(|(label, bytes)| (label.clone(), bytes.clone(), expected(label))));
+    let mut worked = held(CASES, &cases::all());
     worked.extend(beside().map(|(name, bytes, text)| (name.to_string(), bytes, written(text))));
     worked
 }
 
+/// All worked records.
+pub fn worked_records() -> Vec<Worked> {
+    held(RECORDS, &cases::records())
+}
+
+/// The cases, by these entries. An entry without a case is one that expects nothing, and so is at fault.
+fn held(entries: &[(&str, &str)], cases: &[cases::Case]) -> Vec<Worked> {
+    let unmet = entries.iter().filter(|(entry, _)| !cases.iter().any(|(label, _)| meets(label, entry)));
+    let mut worked: Vec<Worked> =
+        unmet.map(|(entry, _)| (format!("(no case {entry})"), Vec::new(), String::new())).collect();
+    let met = cases.iter().map(|(label, bytes)| (label.clone(), bytes.clone(), expected(entries, label)));
+    worked.extend(met);
+    worked
+}
+
 /// What is expected of a case: nothing, which no stream answers, where it meets no entry or two.
-fn expected(label: &str) -> String {
-    let mut met = CASES.iter().filter(|(entry, _)| meets(label, entry));
+fn expected(entries: &[(&str, &str)], label: &str) -> String {
+    let mut met = entries.iter().filter(|(entry, _)| meets(label, entry));
     match (met.next(), met.next()) {
         (Some((_, text)), None) => written(text),
         _ => String::new(),

@@ -4,7 +4,7 @@
 use super::{by_one, fault, has_bad_length, left, one_point, points, rect, Asked, Rect, Way, EMPTY};
 use crate::ops::{Arm, Role};
 use crate::plan;
-use crate::refusals::{ACCEPTED, BAD_LENGTH, BAD_POINT};
+use crate::refusals::{ACCEPTED, BAD_LENGTH, BAD_POINT, NOT_VALID, OUT_OF_REACH};
 
 /// What happened to a list: the answer, and each point with the box before it and its refusal number.
 struct Seen<'a> {
@@ -23,13 +23,16 @@ struct Step {
 /// A name, and whether the arm is reached.
 type Own = (&'static str, fn(&Seen) -> bool);
 
-/// Wanted of both questions.
+/// Wanted of both questions: the length goes before the start, and the start before a bad point.
 const OF_BOTH: &[Own] = &[
     ("an empty list", |seen| seen.refusal == ACCEPTED && seen.asked.numbers.is_empty()),
     ("an empty list, start with -0", |seen| {
         seen.refusal == ACCEPTED && seen.asked.numbers.is_empty() && has_negative_zero(&seen.asked.start)
     }),
-    ("an empty list, start not valid", |seen| seen.asked.numbers.is_empty() && !seen.valid_start()),
+    ("an empty list, start out of reach", |seen| {
+        seen.refusal == OUT_OF_REACH && seen.asked.numbers.is_empty()
+    }),
+    ("an empty list, start not valid", |seen| seen.refusal == NOT_VALID && seen.asked.numbers.is_empty()),
     ("one point", |seen| seen.refusal == ACCEPTED && seen.steps.len() == 1),
     ("the start is empty, but not the standard one", |seen| {
         let [lo, hi, ..] = seen.asked.start;
@@ -58,12 +61,8 @@ const OF_BOTH: &[Own] = &[
             && seen.steps.len() > 2
             && seen.steps[1..seen.steps.len() - 1].iter().any(|step| step.refusal == BAD_POINT)
     }),
-];
-
-/// Wanted of the whole list: the start goes before a bad point, and the length before both.
-const OF_GROWTH: &[Own] = &[
     ("start refused, a point is bad too", |seen| {
-        !seen.valid_start() && seen.refusal != BAD_LENGTH && seen.any_bad_point()
+        matches!(seen.refusal, OUT_OF_REACH | NOT_VALID) && seen.any_bad_point()
     }),
     ("length refused, a point is bad too", |seen| seen.refusal == BAD_LENGTH && seen.any_bad_point()),
 ];
@@ -79,13 +78,13 @@ const OF_SCAN: &[Own] = &[
         stored.is_some_and(|at| seen.steps[at..].iter().any(|step| step.refusal == BAD_POINT))
     }),
     ("nothing is stored, start with -0", |seen| {
-        !seen.any_stored() && !seen.steps.is_empty() && has_negative_zero(&seen.asked.start)
+        seen.refusal == BAD_POINT && !seen.any_stored() && has_negative_zero(&seen.asked.start)
     }),
 ];
 
 fn own(way: Way) -> impl Iterator<Item = &'static Own> {
     let its = match way {
-        Way::Growth => OF_GROWTH,
+        Way::Growth => &[],
         Way::Scan => OF_SCAN,
     };
     OF_BOTH.iter().chain(its)
@@ -119,11 +118,15 @@ fn seen(asked: &Asked) -> Seen<'_> {
     Seen { asked, refusal, left, steps: steps(asked) }
 }
 
-/// Each point with the box before it, as the scan worker meets them. None of a list of a bad length.
+/// Each point with the box before it, as the scan worker meets them. None where the length or the start is
+/// refused.
 fn steps(asked: &Asked) -> Vec<Step> {
     let mut steps = Vec::new();
     let mut before = asked.start;
-    for point in points(asked).filter(|_| !has_bad_length(asked)) {
+    if has_bad_length(asked) || fault(Role::Rect, &before) != ACCEPTED {
+        return steps;
+    }
+    for point in points(asked) {
         let given = by_one(before, point);
         steps.push(Step { before, point, refusal: given.refusal });
         if given.refusal == ACCEPTED {

@@ -34,6 +34,7 @@ const ODD_STARTS: &[Rect] = &[
     [REACH, 1.0, -0.0, 1.0],
     [0.5, -0.0, PI, -PI],
     [-0.0, -0.0, -0.0, 0.0],
+    [f64::NAN, 1.0, 0.0, 1.0],
 ];
 
 /// The next double above 2^500.
@@ -84,8 +85,9 @@ const BAD_POINTS: &[Point] = &[
 
 pub fn lines(rng: &mut Rng, way: Way) -> Vec<Vec<u8>> {
     let kind = Kind::Points(way);
-    let asked = [no_points(way), one_point(way), bad_at_each_position(way), bad_lengths(way), orders(way)];
-    let mut asked: Vec<beside::Asked> = asked.into_iter().flatten().map(beside::Asked::Points).collect();
+    let kinds = [no_points, one_point, bad_at_each_position, bad_alone, bad_lengths, orders];
+    let mut asked: Vec<beside::Asked> =
+        kinds.into_iter().flat_map(|kind| kind(way)).map(beside::Asked::Points).collect();
     for number in REFUSALS {
         asked.extend((0..4).map(|_| plan::aimed_beside(rng, kind, Aim::Refusal(*number))));
     }
@@ -103,8 +105,7 @@ fn grow(way: Way, start: Rect, points: &[Point]) -> Asked {
     Asked { way, start, numbers: points.concat() }
 }
 
-/// An empty list: growth reads the start's zeros, the running box keeps every bit, a start that is not
-/// valid is refused by the one and left alone by the other.
+/// An empty list: the start is read, its zeros too, and refused where it is out of reach or not valid.
 fn no_points(way: Way) -> Vec<Asked> {
     let starts = draw::rect::KNOWN.iter().chain(ODD_STARTS).chain([&ZEROS]);
     starts.map(|start| grow(way, *start, &[])).collect()
@@ -142,6 +143,13 @@ fn bad_at_each_position(way: Way) -> Vec<Asked> {
     }
     asked.push(grow(way, ZEROS, &good));
     asked
+}
+
+/// Bad points alone: a start that is refused goes before them, and any other one comes back with its bits.
+fn bad_alone(way: Way) -> Vec<Asked> {
+    let starts = ODD_STARTS.iter().chain([&ZEROS, &PLAIN, &EMPTY, &OVER]);
+    let lists = [&BAD_POINTS[5..8], BAD_POINTS];
+    starts.flat_map(|start| lists.map(|list| grow(way, *start, list))).collect()
 }
 
 /// The list of five points cut off after each number: the length is looked at before a start that is not

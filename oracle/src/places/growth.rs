@@ -40,18 +40,22 @@ fn statements(start: Rect, list: &[f64]) -> Statements {
     let points: Vec<Point> = list.chunks_exact(2).map(|n| [n[0], n[1]]).collect();
     match asked(Way::Growth, start, list) {
         (ACCEPTED, grown) => [over_places(start, &points, grown), in_parts(start, &points, grown)].concat(),
-        (BAD_POINT, left) => vec![
-            ("a bad point hands back the start's bits", bits(left) == bits(start)),
-            ("the running box grows by the valid points alone", {
-                let valid: Vec<Point> =
-                    points.into_iter().filter(|p| fault(Role::LatLng, p) == ACCEPTED).collect();
-                let (number, running) = asked(Way::Scan, start, list);
-                number == BAD_POINT && running == asked(Way::Growth, start, &valid.concat()).1
-            }),
-        ],
-        (_, _) => {
-            let kept = bits(asked(Way::Scan, start, list).1) == bits(start);
-            vec![("a running box that cannot grow keeps its bits", kept)]
+        (BAD_POINT, left) => {
+            let valid: Vec<Point> =
+                points.into_iter().filter(|p| fault(Role::LatLng, p) == ACCEPTED).collect();
+            let (number, running) = asked(Way::Scan, start, list);
+            let of_valid = asked(Way::Growth, start, &valid.concat()).1;
+            vec![
+                ("a bad point hands back the start's bits", bits(left) == bits(start)),
+                ("a bad point gives the running box its number", number == BAD_POINT),
+                ("the running box grows by the valid points alone", running == of_valid),
+                ("by bad points alone it keeps its bits", !valid.is_empty() || bits(running) == bits(start)),
+            ]
+        }
+        (number, left) => {
+            let (of_scan, running) = asked(Way::Scan, start, list);
+            let alike = of_scan == number && bits(running) == bits(left);
+            vec![("a list or a start is refused alike for the running box", alike)]
         }
     }
 }
@@ -78,10 +82,11 @@ fn in_parts(start: Rect, points: &[Point], grown: Rect) -> Statements {
         let first = asked(Way::Growth, start, &points[..at].concat()).1;
         asked(Way::Growth, first, &points[at..].concat()).1
     };
+    let (number, running) = asked(Way::Scan, start, &points.concat());
     vec![
         ("growth is growth by one point after the other", points.iter().fold(start, by_one) == grown),
         ("growth by a list is growth by its parts", (0..=points.len()).all(|at| cut_at(at) == grown)),
-        ("the running box becomes the same", asked(Way::Scan, start, &points.concat()) == (ACCEPTED, grown)),
+        ("the running box becomes the same", number == ACCEPTED && bits(running) == bits(grown)),
     ]
 }
 

@@ -1,7 +1,9 @@
 //! The cases of the program `common_cases`: streams at the edges of what the program `common` reads. That
 //! program hands each of them to the library function that `common` calls. For each it writes a line
 //! `case LABEL` and then the answer, just as `common` would write it. What it is expected to write is
-//! printed from here: the cases in this order, each with the reference's answer to its bytes.
+//! printed from here: the cases in this order, each with the reference's answer to its bytes. The last of
+//! them, `record NAME`, are handed to the function that reads one record: what they answer is the rectangle
+//! that is handed out, written as a list of one piece is, or the refusal.
 //!
 //! A rectangle has the latitudes [0, 1] and the longitudes given, and "good" is a record of [-1, 1], unless
 //! something else is said. Numbers of 16 digits are bit patterns. P is first, middle and last, in turn; the
@@ -30,10 +32,18 @@
 //! | `longitudes NAME`, ten names | zones of LONGITUDES; only `empty` has other latitudes, [1, 0] |
 //! | `first fault` | a good record, one with the mark 52 30, one with lat.lo 7FF8000000000000 |
 //! | `first fault again` | the same with the last two changed round |
+//! | `record zeros` | latitudes [-0, 0] with longitudes [-0, -0] |
+//! | `record zero west` | longitudes [-0, 1] |
+//! | `record empty` | latitudes [1, -0] with longitudes [PI, -PI] |
+//! | `record nan` | a good record, but lat.lo is 7FF8000000000000 |
+//! | `record not valid` | longitudes [4, 0] |
+//! | `record mark` | a good record, but with the mark 52 30 |
+//! | `record short` | the first 33 bytes of a good record |
+//! | `record and more` | a good record, then another |
 
 use std::f64::consts::PI;
 
-use super::{answer, marked, record, Rect, RECORD};
+use super::{answer, marked, record, record_read, Rect, RECORD};
 use crate::common::MOST_RECTS;
 
 /// A label and the bytes of a stream.
@@ -73,7 +83,10 @@ const LONGITUDES: &[(&str, &[[f64; 2]])] = &[
 
 /// What the program is expected to write.
 pub fn text() -> String {
-    all().iter().map(|(label, bytes)| format!("case {label}\n{}", answer(bytes))).collect()
+    let shown = |cases: &[Case], answer: fn(&[u8]) -> String| -> String {
+        cases.iter().map(|(label, bytes)| format!("case {label}\n{}", answer(bytes))).collect()
+    };
+    shown(&all(), answer) + &shown(&records(), record_read)
 }
 
 pub fn all() -> Vec<Case> {
@@ -179,5 +192,19 @@ fn first_faults() -> Vec<Case> {
     vec![
         case("first fault", &[good(), wrong_mark(), nan()]),
         case("first fault again", &[good(), nan(), wrong_mark()]),
+    ]
+}
+
+/// Records that are read by themselves.
+pub fn records() -> Vec<Case> {
+    vec![
+        case("record zeros", &[record([-0.0, 0.0, -0.0, -0.0])]),
+        case("record zero west", &[record(zone([-0.0, 1.0]))]),
+        case("record empty", &[record([1.0, -0.0, PI, -PI])]),
+        case("record nan", &[nan()]),
+        case("record not valid", &[record(zone([4.0, 0.0]))]),
+        case("record mark", &[wrong_mark()]),
+        case("record short", &[good()[..RECORD - 1].to_vec()]),
+        case("record and more", &[good(), good()]),
     ]
 }

@@ -5,11 +5,11 @@ use borrow.Author.Needs.{needs}
 use Rattle.boxes.proofs.write.Statement.{statement}
 use Rattle.boxes.proofs.write.Tie as tie
 
-slice-aggregate-write-all : tie.Need-slice-aggregate-write-all
-slice-aggregate-write-all c = sym (length-take-le _ _ (c .before .if1 .taken))
+slice-aggregate-put : tie.Need-slice-aggregate-put
+slice-aggregate-put c = sym (length-take-le _ _ (c .before .if1 .taken))
 
-write-all-requires : tie.Need-write-all-requires
-write-all-requires c κs = search needs
+put-requires : tie.Need-put-requires
+put-requires c κs = search needs
 
 returns : tie.Need-returns
 returns c = search needs
@@ -18,4 +18,4 @@ returns-2 : tie.Need-returns-2
 returns-2 c = search needs
 
 pub write-spec : {M : Type 1} → statement M
-write-spec = tie.close (tie.spec slice-aggregate-write-all write-all-requires returns returns-2)
+write-spec = tie.close (tie.spec slice-aggregate-put put-requires returns returns-2)

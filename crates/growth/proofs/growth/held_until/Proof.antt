@@ -1,7 +1,6 @@
 -- `growth::growth::held_until`: the loop keeps that the points passed over change nothing. One more is passed over by proofs/Held.antt, `held-turn`.
 -- Assumes nothing.
 use mathlib.Core.Path.{_≡_, refl, sym, _∙_}
-use mathlib.Core.Bool.{Bool, true, false, not}
 use Prim.Native.Nat.{_+_, _-_}
 use native.Mathlib.Omega.{arith}
 use borrow.Author.Needs.{needs}
@@ -10,6 +9,7 @@ use lib.ListN.{length}
 use Rattle.growth.specs.Growth.{pointAt}
 use Rattle.growth.specs.Points.{DoublePoint}
 use Rattle.growth.specs.Held.{HeldUntil}
+use Rattle.growth.proofs.Turns.{passed}
 use Rattle.growth.proofs.Held.{held-turn}
 use Rattle.growth.proofs.growth.held_until.Statement.{statement}
 use Rattle.growth.proofs.growth.held_until.Tie as tie
@@ -19,11 +19,6 @@ Inv-loop points first q n i₀ i = HeldUntil points first q i × (n ≡ length p
 
 abbrev μ-loop : tie.MeasureT-loop
 μ-loop points first q n i₀ i = length points - i
-
--- the test that did not turn back
-kept : {b : Bool} → not b ≡ false → b ≡ true
-kept {b = true} h = refl
-kept {b = false} h = sym h
 
 loop-holds : tie.Need-loop-holds Inv-loop μ-loop
 loop-holds c = (record { is = λ start. refl; from = omega arith; up-to = omega arith; whole = omega arith }, refl)
@@ -63,7 +58,7 @@ loop-again c =
     let i = at .loop .i in
     let fit = c .before .before .shared-slice-known3 .given in
     let d : DoublePoint (pointAt l i) = record { lat-double = is-true _ (fit i); lng-double = is-true _ (fit (i + 1)) } in
-    let held = sym (c .before .is-held .ensures) ∙ kept (c .if1 .left) in
+    let held = sym (c .before .is-held .ensures) ∙ passed (c .if1 .left) in
     let was = at .loop .inv .0 in (
       record {
         is = λ r. held-turn r (start .args .q) l i (omega arith) (start .pre .3) d held ∙ was .is r;

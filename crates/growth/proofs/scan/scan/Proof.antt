@@ -1,100 +1,89 @@
--- `growth::scan::scan`: the loop keeps that the answer is the scan, from the number and the box so far, by what is left of the list. The turns are in
--- proofs/Turns.antt. Assumes nothing.
-use mathlib.Core.Path.{_≡_, refl, sym, ap, _∙_}
-use Prim.Native.Nat.{ℕ, _-_, _%_, _≤_}
-use native.Mathlib.Omega.{arith}
+-- `growth::scan::scan`: each return is a case of `scanned`, which proofs/Turns.antt has by the test that led to it. Assumes nothing.
+use mathlib.Core.Path.{sym, _∙_}
 use borrow.Author.Needs.{needs}
-use lib.ListN.{length, drop}
-use Rattle.growth.specs.Growth.{pointsOf}
-use Rattle.growth.specs.Scan.{scannedFrom}
-use Rattle.growth.proofs.Turns.{whole, odd, long, scan-start, scan-turn, scan-end}
+use Rattle.growth.proofs.Turns.{taken, passed, whole-even, scan-start-refused, scan-left, scan-written}
 use Rattle.growth.proofs.Laws.{scan-list-bad}
 use Rattle.growth.proofs.scan.scan.Statement.{statement}
 use Rattle.growth.proofs.scan.scan.Tie as tie
 
-abbrev Inv-loop : tie.InvT-loop
-Inv-loop points n refusal₀ b₀ i₀ refusal b i =
-    (scannedFrom refusal₀ b₀ (pointsOf points) ≡ scannedFrom refusal b (pointsOf (drop i points))) × (i ≤ length points) × (i % 2 ≡ 0) × (n ≡ length points) × (n % 2 ≡ 0)
+whole-points-requires : tie.Need-whole-points-requires
+whole-points-requires c κs = search needs
 
-abbrev μ-loop : tie.MeasureT-loop
-μ-loop points n refusal₀ b₀ i₀ refusal b i = length points - i
+answer-requires : tie.Need-answer-requires
+answer-requires c κs = search needs
 
-returns : tie.Need-returns Inv-loop μ-loop
+returns : tie.Need-returns
 returns c =
-    let a = c .before .before .args in
-    sym (scan-list-bad (a .start) (a .points .now) (odd (a .points .now) (c .if1 .taken)))
+    let at-list = c .before .before in
+    let a = at-list .before .before .args in
+    let w = sym (at-list .whole-points .ensures) ∙ taken (c .before .if1 .taken) in
+    c .answer .ensures ∙ sym (scan-list-bad (a .start) (a .points .now) w)
 
-returns-2 : tie.Need-returns-2 Inv-loop μ-loop
+read-one-requires : tie.Need-read-one-requires
+read-one-requires c κs = search needs
+
+answer-requires-2 : tie.Need-answer-requires-2
+answer-requires-2 c κs = search needs
+
+returns-2 : tie.Need-returns-2
 returns-2 c =
-    let a = c .before .before .before .args in
-    sym (scan-list-bad (a .start) (a .points .now) (long (a .points .now) (omega arith) (omega arith)))
+    let at-start = c .before .before .before in
+    let at-list = at-start .before .before in
+    let a = at-list .before .before .args in
+    let w = sym (at-list .whole-points .ensures) ∙ passed (at-start .before .if1 .left) in
+    let x = at-start .read-one in
+    c .answer2 .ensures ∙ sym (scan-start-refused (a .start) (a .points .now) w (x .result) (x .ensures) (c .before .if2 .taken))
 
-loop-holds : tie.Need-loop-holds Inv-loop μ-loop
-loop-holds c = (refl, omega arith, omega arith, refl, omega arith)
+scan-points-requires : tie.Need-scan-points-requires
+scan-points-requires c κs =
+    let at-start = c .before .before in
+    let at-list = at-start .before .before in
+    let w = sym (at-list .whole-points .ensures) ∙ passed (at-start .before .if1 .left) in
+    whole-even (at-list .before .before .args .points .now) w
 
-mul-scan-point : tie.Need-mul-scan-point Inv-loop μ-loop
-mul-scan-point c = search needs
-
-shared-slice-read-scan-point : tie.Need-shared-slice-read-scan-point Inv-loop μ-loop
-shared-slice-read-scan-point c = search needs
-
-add-scan-point : tie.Need-add-scan-point Inv-loop μ-loop
-add-scan-point c = search needs
-
-mul-scan-point-2 : tie.Need-mul-scan-point-2 Inv-loop μ-loop
-mul-scan-point-2 c = search needs
-
-shared-slice-read-scan-point-2 : tie.Need-shared-slice-read-scan-point-2 Inv-loop μ-loop
-shared-slice-read-scan-point-2 c = search needs
-
-scan-point-requires : tie.Need-scan-point-requires Inv-loop μ-loop
-scan-point-requires c κs = search needs
-
-first-refusal-requires : tie.Need-first-refusal-requires Inv-loop μ-loop
-first-refusal-requires c κs = search needs
-
-add-i : tie.Need-add-i Inv-loop μ-loop
-add-i c = search needs
-
-loop-less : tie.Need-loop-less Inv-loop μ-loop
-loop-less c = search needs
-
-loop-again : tie.Need-loop-again Inv-loop μ-loop
-loop-again c =
-    let at = c .before .before .before .before .before .before in
-    let a = at .before .before .before .before .args in
-    let v = at .loop in
-    let x = c .before .before .scan-point in
-    let y = c .before .first-refusal in
-    (v .inv .0 ∙ scan-turn (v .refusal) (v .b) (a .points .now) (v .i) (omega arith) (y .result) (x .result) (x .ensures) (y .ensures), omega arith, omega arith, refl, omega arith)
-
-returns-3 : tie.Need-returns-3 Inv-loop μ-loop
+returns-3 : tie.Need-returns-3
 returns-3 c =
-    let at = c .before in
-    let a = at .before .before .before .before .args in
-    let v = at .loop in
-    let e : v .i ≡ length (a .points .now) = omega arith in
-    sym
-    (scan-start (a .start) (a .points .now) (whole (a .points .now) (omega arith) (omega arith)) ∙ v .inv .0
-    ∙ ap (λ (i : ℕ). scannedFrom (v .refusal) (v .b) (pointsOf (drop i (a .points .now)))) e ∙ scan-end (v .refusal) (v .b) (a .points .now))
+    let at-box = c .before .before in
+    let at-start = at-box .before .before .before in
+    let at-list = at-start .before .before in
+    let a = at-list .before .before .args in
+    let w = sym (at-list .whole-points .ensures) ∙ passed (at-start .before .if1 .left) in
+    let x = at-start .read-one in
+    let y = at-box .scan-points in
+    sym (scan-left (a .start) (a .points .now) w (x .result) (x .ensures) (at-box .before .if2 .left) (y .result) (y .ensures) (c .if3 .taken))
+
+read-one-requires-2 : tie.Need-read-one-requires-2
+read-one-requires-2 c κs = search needs
+
+answer-requires-3 : tie.Need-answer-requires-3
+answer-requires-3 c κs = search needs
+
+returns-4 : tie.Need-returns-4
+returns-4 c =
+    let at-end = c .before in
+    let at-box = at-end .before .before .before in
+    let at-start = at-box .before .before .before in
+    let at-list = at-start .before .before in
+    let a = at-list .before .before .args in
+    let w = sym (at-list .whole-points .ensures) ∙ passed (at-start .before .if1 .left) in
+    let x = at-start .read-one in
+    let y = at-box .scan-points in
+    let z = at-end .read-one2 in
+    c .answer3 .ensures
+    ∙ sym (scan-written (a .start) (a .points .now) w (x .result) (x .ensures) (at-box .before .if2 .left) (y .result) (y .ensures) (at-end .before .if3 .left) (z .result) (z .ensures))
 
 pub scan-spec : {M : Type 1} → statement M
 scan-spec =
     tie.close
     (tie.spec
-    Inv-loop
-    μ-loop
+    whole-points-requires
+    answer-requires
     returns
+    read-one-requires
+    answer-requires-2
     returns-2
-    loop-holds
-    mul-scan-point
-    shared-slice-read-scan-point
-    add-scan-point
-    mul-scan-point-2
-    shared-slice-read-scan-point-2
-    scan-point-requires
-    first-refusal-requires
-    add-i
-    loop-less
-    loop-again
-    returns-3)
+    scan-points-requires
+    returns-3
+    read-one-requires-2
+    answer-requires-3
+    returns-4)

@@ -7,7 +7,7 @@ use borrow.Author.Needs.{needs}
 use lib.ListN.{length}
 use lib.Seq.{length-take-le}
 use Rattle.text.specs.Answers.{wrote, left}
-use Rattle.lines.proofs.Gathers.{Read, is-read, read-text, fault-text, many-text}
+use Rattle.lines.proofs.Gathers.{none-text, Read, is-read, read-text, fault-text, many-text}
 use Rattle.lines.proofs.answer.boxes_text.Statement.{statement}
 use Rattle.lines.proofs.answer.boxes_text.Tie as tie
 
@@ -16,6 +16,12 @@ slice-aggregate-gather c = search needs
 
 gather-requires : tie.Need-gather-requires
 gather-requires c κs = search needs
+
+enum-told : tie.Need-enum-told
+enum-told c = search needs
+
+write-refusal-requires : tie.Need-write-refusal-requires
+write-refusal-requires c κs = search needs
 
 enum-known-g : tie.Need-enum-known-g
 enum-known-g c = search needs
@@ -66,17 +72,28 @@ enum-known-g-2 c = search needs
 write-refusal-at-requires : tie.Need-write-refusal-at-requires
 write-refusal-at-requires c κs = search needs
 
-enum-told : tie.Need-enum-told
-enum-told c = search needs
+enum-told-2 : tie.Need-enum-told-2
+enum-told-2 c = search needs
 
-write-refusal-requires : tie.Need-write-refusal-requires
-write-refusal-requires c κs = search needs
+write-refusal-requires-2 : tie.Need-write-refusal-requires-2
+write-refusal-requires-2 c κs = search needs
 
 same-length : tie.Need-same-length
 same-length c = search needs
 
 returns : tie.Need-returns
 returns c =
+    let a = c .before .before .before .before .before .before .before .before .before .before .before .args in
+    let g = c .before .before .before .before .before .before .before .gather in
+    let t = none-text (a .s .now) (g .result) (g .last .1 .0) (g .ensures) (c .before .before .before .before .enum-told .given .1) (a .out .now) in
+    let w = c .before .before .write-refusal in
+    (w .ensures .0 ∙ t .0, w .ensures .1 ∙ t .1)
+
+same-length-2 : tie.Need-same-length-2
+same-length-2 c = search needs
+
+returns-2 : tie.Need-returns-2
+returns-2 c =
     let s = c .before .before .before .before .before .before .before .before .before .before .before .before .before .args .s .now in
     let g = c .before .before .before .before .before .before .before .before .before .gather in
     let k = c .before .before .before .before .before .before .g .given .0 .0 in
@@ -86,11 +103,11 @@ returns c =
     let w = c .before .before .listed in
     (w .ensures .0 ∙ ap (λ (l : List ℕ). wrote l (length o)) t, w .ensures .1 ∙ ap (λ (l : List ℕ). left l o) t)
 
-same-length-2 : tie.Need-same-length-2
-same-length-2 c = search needs
+same-length-3 : tie.Need-same-length-3
+same-length-3 c = search needs
 
-returns-2 : tie.Need-returns-2
-returns-2 c =
+returns-3 : tie.Need-returns-3
+returns-3 c =
     let a = c .before .before .before .before .before .before .before .before .before .before .before .before .args in
     let g = c .before .before .before .before .before .before .before .before .gather in
     let x = c .before .before .before .before .before .g2 .given in
@@ -98,15 +115,15 @@ returns-2 c =
     let w = c .before .before .write-refusal-at in
     (w .ensures .0 ∙ t .0, w .ensures .1 ∙ t .1)
 
-same-length-3 : tie.Need-same-length-3
-same-length-3 c = search needs
+same-length-4 : tie.Need-same-length-4
+same-length-4 c = search needs
 
-returns-3 : tie.Need-returns-3
-returns-3 c =
+returns-4 : tie.Need-returns-4
+returns-4 c =
     let a = c .before .before .before .before .before .before .before .before .before .before .before .args in
     let g = c .before .before .before .before .before .before .before .gather in
-    let t = many-text (a .s .now) (g .result) (g .last .1 .0) (g .ensures) (c .before .before .before .before .enum-told .given .1) (a .out .now) in
-    let w = c .before .before .write-refusal in
+    let t = many-text (a .s .now) (g .result) (g .last .1 .0) (g .ensures) (c .before .before .before .before .enum-told2 .given .1) (a .out .now) in
+    let w = c .before .before .write-refusal2 in
     (w .ensures .0 ∙ t .0, w .ensures .1 ∙ t .1)
 
 pub boxes-text-spec : {M : Type 1} → statement M
@@ -115,6 +132,8 @@ boxes-text-spec =
     (tie.spec
     slice-aggregate-gather
     gather-requires
+    enum-told
+    write-refusal-requires
     enum-known-g
     mul-n
     add-n
@@ -123,11 +142,13 @@ boxes-text-spec =
     listed-requires
     enum-known-g-2
     write-refusal-at-requires
-    enum-told
-    write-refusal-requires
+    enum-told-2
+    write-refusal-requires-2
     same-length
     returns
     same-length-2
     returns-2
     same-length-3
-    returns-3)
+    returns-3
+    same-length-4
+    returns-4)

@@ -8,8 +8,8 @@ use borrow.Author.Needs.{needs}
 use lib.ListN.{length}
 use lib.IntN.{ℤ}
 use Rattle.lines.specs.Answers.{GLOBE}
-use Rattle.lines.specs.Promises.{all-read, one-refused, one-too-many}
-use Rattle.lines.proofs.Held.{Held, starts, good, bad, over, ends, all-held, length-placed}
+use Rattle.lines.specs.Promises.{none-there, all-read, one-refused, one-too-many}
+use Rattle.lines.proofs.Held.{Held, starts, good, bad, over, none, ends, all-held, length-placed}
 use Rattle.lines.proofs.gather.gather.Statement.{statement}
 use Rattle.lines.proofs.gather.gather.Tie as tie
 
@@ -95,7 +95,18 @@ same-length-3 : tie.Need-same-length-3 Inv-loop μ-loop
 same-length-3 c = search needs
 
 returns-3 : tie.Need-returns-3 Inv-loop μ-loop
-returns-3 c = all-read (c .before .loop .inv .0 .boxes) (c .before .loop .k) (c .before .loop .list) (ends _ (c .before .loop .list) (c .before .loop .at) (c .before .loop .k) (c .before .loop .inv .0) (omega arith)) (c .before .loop .inv .0 .many) (all-held _ (c .before .loop .list) (c .before .loop .at) (c .before .loop .k) (c .before .loop .inv .0) (omega arith))
+returns-3 c =
+    let v = c .before .before .loop in
+    none-there (v .list) (none _ (v .list) (v .at) (v .k) (v .inv .0) (omega arith) (c .if3 .taken))
+
+same-length-4 : tie.Need-same-length-4 Inv-loop μ-loop
+same-length-4 c = search needs
+
+returns-4 : tie.Need-returns-4 Inv-loop μ-loop
+returns-4 c =
+    let v = c .before .before .loop in
+    let h = v .inv .0 in
+    all-read (h .boxes) (v .k) (v .list) (ends _ (v .list) (v .at) (v .k) h (omega arith) (c .if3 .left)) (h .many) (all-held _ (v .list) (v .at) (v .k) h (omega arith))
 
 pub gather-spec : {M : Type 1} → statement M
 gather-spec =
@@ -121,4 +132,6 @@ gather-spec =
     loop-less
     loop-again
     same-length-3
-    returns-3)
+    returns-3
+    same-length-4
+    returns-4)

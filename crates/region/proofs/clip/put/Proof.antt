@@ -55,16 +55,6 @@ same-length c = search needs
 same-length-2 : tie.Need-same-length-2 Inv-loop μ-loop
 same-length-2 c = search needs
 
-returns : tie.Need-returns Inv-loop μ-loop
-returns c =
-    let at = c .before .before .before .before .before .before .before .before .before in
-    let v = at .loop in
-    let n = at .before .args .n in
-    let h : v .i < n = omega arith in
-    let b : n ≤ length (v .lo) = omega arith in
-    let q : length (v .lo) ≡ length (v .hi) = v .inv .4 in
-    record { is = put-same (v .lo) (v .hi) n (v .i) h b q (v .moved) (v .c) (c .before .before .before .if1 .left) (off _ (c .if2 .taken)) ∙ v .inv .0; few = omega arith }
-
 add-i : tie.Need-add-i Inv-loop μ-loop
 add-i c = search needs
 
@@ -83,6 +73,16 @@ loop-again c =
     (λ w. rw (w .1, w .2, w .3, w .4) (put-move (v .lo) (v .hi) n (v .i) h b q (v .moved) (v .c) (w .0 .taken) ∙ v .inv .0, omega arith, omega arith, simp length-set (v .inv .3), simp length-set (v .inv .4), simp length-set (v .inv .5), simp length-set (v .inv .6)))
     (λ w. rw (w .4, w .5, w .6, w .7) (put-past (v .lo) (v .hi) n (v .i) h b q (v .moved) (v .c) (w .0 .left) (on _ (w .3 .left)) ∙ v .inv .0, omega arith, omega arith, v .inv .3, v .inv .4, v .inv .5, v .inv .6))
     (c .if1 .came)
+
+returns : tie.Need-returns Inv-loop μ-loop
+returns c =
+    let at = c .before .before .before .before .before .before .before .before .before in
+    let v = at .loop in
+    let n = at .before .args .n in
+    let h : v .i < n = omega arith in
+    let b : n ≤ length (v .lo) = omega arith in
+    let q : length (v .lo) ≡ length (v .hi) = v .inv .4 in
+    record { is = put-same (v .lo) (v .hi) n (v .i) h b q (v .moved) (v .c) (c .before .before .before .if1 .left) (off _ (c .if2 .taken)) ∙ v .inv .0; few = omega arith }
 
 mul-lo-2 : tie.Need-mul-lo-2 Inv-loop μ-loop
 mul-lo-2 c = search needs

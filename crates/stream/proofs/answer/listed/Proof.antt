@@ -19,21 +19,21 @@ mul-n : tie.Need-mul-n
 mul-n c =
     let s = c .before .before .before .before .before .before in
     let k = c .before .before .common-region in
-    let i : IsListed (s .args .list .now) (k .result .count) (k .last .1 .0) = listing _ _ _ _ (c .before .before .before .before .before .shared-slice-known .given) (s .pre) refl (k .ensures) in
+    let i : IsListed (s .args .list .now) (k .result .count) (k .last .1 .0) = listing _ _ _ _ (s .pre) refl (k .ensures) in
     omega (arith, i .few)
 
 array-share-prefix-pieces : tie.Need-array-share-prefix-pieces
 array-share-prefix-pieces c =
     let s = c .before .before .before .before .before .before in
     let k = c .before .before .common-region in
-    let i : IsListed (s .args .list .now) (k .result .count) (k .last .1 .0) = listing _ _ _ _ (c .before .before .before .before .before .shared-slice-known .given) (s .pre) refl (k .ensures) in
+    let i : IsListed (s .args .list .now) (k .result .count) (k .last .1 .0) = listing _ _ _ _ (s .pre) refl (k .ensures) in
     omega (arith, i .few, k .kept .1 .0)
 
 slice-aggregate-write-pieces : tie.Need-slice-aggregate-write-pieces
 slice-aggregate-write-pieces c =
     let s = c .before .before .before .before .before .before .before in
     let k = c .before .before .before .common-region in
-    let i : IsListed (s .args .list .now) (k .result .count) (k .last .1 .0) = listing _ _ _ _ (c .before .before .before .before .before .before .shared-slice-known .given) (s .pre) refl (k .ensures) in
+    let i : IsListed (s .args .list .now) (k .result .count) (k .last .1 .0) = listing _ _ _ _ (s .pre) refl (k .ensures) in
     sym (length-take-le (4 * k .result .count) (k .last .1 .0) (omega (arith, i .few, k .kept .1 .0)))
 
 write-pieces-requires : tie.Need-write-pieces-requires
@@ -46,7 +46,7 @@ returns : tie.Need-returns
 returns c =
     let s = c .before .before .before .before .before .before .before .before .before .before .before in
     let k = c .before .before .before .before .before .before .before .common-region in
-    let i : IsListed (s .args .list .now) (k .result .count) (k .last .1 .0) = listing _ _ _ _ (c .before .before .before .before .before .before .before .before .before .before .shared-slice-known .given) (s .pre) refl (k .ensures) in
+    let i : IsListed (s .args .list .now) (k .result .count) (k .last .1 .0) = listing _ _ _ _ (s .pre) refl (k .ensures) in
     let x = c .before .before .write-pieces in
     (x .ensures .0 ∙ wrote-listed _ _ _ i _, x .ensures .1 ∙ left-listed _ _ _ i _)
 

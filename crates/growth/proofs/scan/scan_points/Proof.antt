@@ -1,0 +1,90 @@
+-- `growth::scan::scan_points`: the loop keeps that the answer is the scan, from the number and the box so far, by what is left of the list. The turns are in
+-- proofs/Turns.antt. Assumes nothing.
+use mathlib.Core.Path.{_≡_, refl, sym, ap, _∙_}
+use Prim.Native.Nat.{ℕ, _-_, _%_, _≤_}
+use native.Mathlib.Omega.{arith}
+use borrow.Author.Needs.{needs}
+use lib.ListN.{length, drop}
+use Rattle.growth.specs.Growth.{pointsOf}
+use Rattle.growth.specs.Scan.{scannedFrom}
+use Rattle.growth.proofs.Turns.{scan-turn, scan-end}
+use Rattle.growth.proofs.scan.scan_points.Statement.{statement}
+use Rattle.growth.proofs.scan.scan_points.Tie as tie
+
+abbrev Inv-loop : tie.InvT-loop
+Inv-loop points n refusal₀ b₀ i₀ refusal b i =
+    (scannedFrom refusal₀ b₀ (pointsOf points) ≡ scannedFrom refusal b (pointsOf (drop i points))) × (i ≤ length points) × (i % 2 ≡ 0) × (n ≡ length points) × (n % 2 ≡ 0)
+
+abbrev μ-loop : tie.MeasureT-loop
+μ-loop points n refusal₀ b₀ i₀ refusal b i = length points - i
+
+loop-holds : tie.Need-loop-holds Inv-loop μ-loop
+loop-holds c = (refl, omega arith, omega arith, refl, omega arith)
+
+mul-scan-point : tie.Need-mul-scan-point Inv-loop μ-loop
+mul-scan-point c = search needs
+
+shared-slice-read-scan-point : tie.Need-shared-slice-read-scan-point Inv-loop μ-loop
+shared-slice-read-scan-point c = search needs
+
+add-scan-point : tie.Need-add-scan-point Inv-loop μ-loop
+add-scan-point c = search needs
+
+mul-scan-point-2 : tie.Need-mul-scan-point-2 Inv-loop μ-loop
+mul-scan-point-2 c = search needs
+
+shared-slice-read-scan-point-2 : tie.Need-shared-slice-read-scan-point-2 Inv-loop μ-loop
+shared-slice-read-scan-point-2 c = search needs
+
+scan-point-requires : tie.Need-scan-point-requires Inv-loop μ-loop
+scan-point-requires c κs = search needs
+
+first-refusal-requires : tie.Need-first-refusal-requires Inv-loop μ-loop
+first-refusal-requires c κs = search needs
+
+add-i : tie.Need-add-i Inv-loop μ-loop
+add-i c = search needs
+
+loop-less : tie.Need-loop-less Inv-loop μ-loop
+loop-less c = search needs
+
+loop-again : tie.Need-loop-again Inv-loop μ-loop
+loop-again c =
+    let at = c .before .before .before .before .before .before in
+    let a = at .before .before .args in
+    let v = at .loop in
+    let x = c .before .before .scan-point in
+    let y = c .before .first-refusal in
+    (v .inv .0 ∙ scan-turn (v .refusal) (v .b) (a .points .now) (v .i) (omega arith) (y .result) (x .result) (x .ensures) (y .ensures), omega arith, omega arith, refl, omega arith)
+
+answer-requires : tie.Need-answer-requires Inv-loop μ-loop
+answer-requires c κs = search needs
+
+returns : tie.Need-returns Inv-loop μ-loop
+returns c =
+    let at = c .before .before in
+    let a = at .before .before .args in
+    let v = at .loop in
+    let e : v .i ≡ length (a .points .now) = omega arith in
+    c .answer .ensures
+    ∙ sym (v .inv .0 ∙ ap (λ (i : ℕ). scannedFrom (v .refusal) (v .b) (pointsOf (drop i (a .points .now)))) e ∙ scan-end (v .refusal) (v .b) (a .points .now))
+
+pub scan-points-spec : {M : Type 1} → statement M
+scan-points-spec =
+    tie.close
+    (tie.spec
+    Inv-loop
+    μ-loop
+    loop-holds
+    mul-scan-point
+    shared-slice-read-scan-point
+    add-scan-point
+    mul-scan-point-2
+    shared-slice-read-scan-point-2
+    scan-point-requires
+    first-refusal-requires
+    add-i
+    loop-less
+    loop-again
+    answer-requires
+    returns)
