@@ -1,4 +1,4 @@
-# Read by the scripts beside it, not run by itself. It says which two doors are compared.
+# Read by the scripts beside it, not run by itself. It says which two doors are compared, and how a program is run.
 #
 #   JUDGE   the command of the door whose answers are expected (default: the oracle)
 #   ASK     the command of the door that is tried (default: ./run ask, the Rattle program)
@@ -30,4 +30,18 @@ build_doors() {
         (cd "$root" && sh -c "$door") </dev/null >"$work/on-empty" || die "the door '$door' does not build or run"
         [ ! -s "$work/on-empty" ] || die "the door '$door' answers empty input: $(head -c 200 "$work/on-empty")"
     done
+}
+
+# run_program DOOR COMMAND INPUT COUNT SEED: the oracle's door DOOR runs a program of ours on drawn inputs. The
+# program is built by its first run, on INPUT. The limit does not count here: proving takes long.
+run_program() {
+    work=$out/$1
+    [ $# -eq 5 ] || die "usage: $name COUNT SEED"
+    case $4$5 in *[!0-9]*) die 'COUNT and SEED are whole numbers' ;; esac
+    "$here/build" || exit 2
+    mkdir -p "$work"
+    rm -f "$work"/differing-*
+    cd "$root"
+    printf '%s' "$3" | sh -c "$2" >"$work/on-first" || die "the program '$2' does not build or run"
+    exec "$oracle" "$1" "$4" "$5" "$2" "${LIMIT:-60}" "$work"
 }

@@ -130,15 +130,6 @@ fn pieces(lists: &[Vec<f64>]) -> String {
     }
 }
 
-/// 512 pieces may cost four times the sweep; of 128 zones nothing was said.
-fn limit(n: usize, kind: Zones) -> Option<f64> {
-    match (n, kind) {
-        (128, _) => None,
-        (512, Zones::Gaps | Zones::Falling | Zones::Shuffled) => Some(4.0),
-        _ => Some(1.0),
-    }
-}
-
 pub fn common(rows: &mut Vec<Row>, g: &mut Rng) {
     let kinds = [
         ("random zones", Zones::Random),
@@ -157,7 +148,7 @@ pub fn common(rows: &mut Vec<Row>, g: &mut Rng) {
             rows.push(Row {
                 group: "common region",
                 name: format!("n = {n}, {name}, {}", pieces(lists)),
-                limit: limit(n, kind),
+                limit: Some(1.0),
                 calls: lists.len(),
                 differ: Box::new(move || {
                     lists

@@ -2,7 +2,7 @@
 //! need to compile.
 //!
 //! `oracle/build` puts this file beside unchanged copies of the crate's own files. A later layer adds
-//! its modules here and its files to the list FILES in `oracle/build`.
+//! its modules here and its files to the list FILES in `oracle/crate.sh`.
 
 pub mod consts;
 
@@ -43,7 +43,17 @@ pub mod s2 {
 /// edges. Only the names and types are here, so that the two files compile. Every function ends the
 /// program, so no answer can come to lean on one.
 mod left_behind {
+    macro_rules! ends_the_program {
+        ($($public:vis fn $name:ident($($operands:tt)*) -> $gives:ty;)*) => {
+            $($public fn $name($($operands)*) -> $gives {
+                unimplemented!()
+            })*
+        };
+    }
+
     pub mod point {
+        use std::ops::{Add, Mul, Sub};
+
         use crate::r3::vector::Vector;
         use crate::s1::Angle;
 
@@ -51,42 +61,27 @@ mod left_behind {
         pub struct Point(pub Vector);
 
         impl Point {
-            pub fn from_coords(_x: f64, _y: f64, _z: f64) -> Self {
-                unimplemented!()
-            }
-
-            pub fn cross(&self, _other: &Self) -> Self {
-                unimplemented!()
-            }
-
-            pub fn normalize(&self) -> Self {
-                unimplemented!()
-            }
-
-            pub fn distance(&self, _other: &Self) -> Angle {
-                unimplemented!()
+            ends_the_program! {
+                pub fn from_coords(_x: f64, _y: f64, _z: f64) -> Self;
+                pub fn cross(&self, _other: &Self) -> Self;
+                pub fn normalize(&self) -> Self;
+                pub fn distance(&self, _other: &Self) -> Angle;
             }
         }
 
-        impl std::ops::Add<Point> for Point {
+        impl Add<Point> for Point {
             type Output = Point;
-            fn add(self, _other: Point) -> Point {
-                unimplemented!()
-            }
+            ends_the_program! { fn add(self, _other: Point) -> Point; }
         }
 
-        impl std::ops::Sub<Point> for Point {
+        impl Sub<Point> for Point {
             type Output = Point;
-            fn sub(self, _other: Point) -> Point {
-                unimplemented!()
-            }
+            ends_the_program! { fn sub(self, _other: Point) -> Point; }
         }
 
-        impl std::ops::Mul<f64> for Point {
+        impl Mul<f64> for Point {
             type Output = Point;
-            fn mul(self, _by: f64) -> Point {
-                unimplemented!()
-            }
+            ends_the_program! { fn mul(self, _by: f64) -> Point; }
         }
     }
 
@@ -97,30 +92,20 @@ mod left_behind {
         pub struct Cap;
 
         impl Cap {
-            pub fn empty() -> Self {
-                unimplemented!()
-            }
-
-            pub fn from_center_angle(_center: &Point, _angle: &Angle) -> Self {
-                unimplemented!()
-            }
-
-            pub fn height(&self) -> f64 {
-                unimplemented!()
+            ends_the_program! {
+                pub fn empty() -> Self;
+                pub fn from_center_angle(_center: &Point, _angle: &Angle) -> Self;
+                pub fn height(&self) -> f64;
             }
         }
 
         impl From<&Point> for Cap {
-            fn from(_center: &Point) -> Self {
-                unimplemented!()
-            }
+            ends_the_program! { fn from(_center: &Point) -> Self; }
         }
 
         impl std::ops::Add<Point> for Cap {
             type Output = Cap;
-            fn add(self, _point: Point) -> Cap {
-                unimplemented!()
-            }
+            ends_the_program! { fn add(self, _point: Point) -> Cap; }
         }
     }
 
@@ -132,9 +117,7 @@ mod left_behind {
         pub struct CellId;
 
         impl CellId {
-            pub fn raw_point(&self) -> Vector {
-                unimplemented!()
-            }
+            ends_the_program! { pub fn raw_point(&self) -> Vector; }
         }
 
         pub struct Cell {
@@ -142,16 +125,10 @@ mod left_behind {
         }
 
         impl Cell {
-            pub fn rect_bound(&self) -> Rect {
-                unimplemented!()
-            }
-
-            pub fn contains_point(&self, _point: &Point) -> bool {
-                unimplemented!()
-            }
-
-            pub fn vertex(&self, _number: usize) -> Point {
-                unimplemented!()
+            ends_the_program! {
+                pub fn rect_bound(&self) -> Rect;
+                pub fn contains_point(&self, _point: &Point) -> bool;
+                pub fn vertex(&self, _number: usize) -> Point;
             }
         }
     }
@@ -173,12 +150,9 @@ mod left_behind {
         use super::point::Point;
         use crate::s1::Angle;
 
-        pub fn simple_crossing(_a: &Point, _b: &Point, _c: &Point, _d: &Point) -> bool {
-            unimplemented!()
-        }
-
-        pub fn distance_from_segment(_x: &Point, _a: &Point, _b: &Point) -> Angle {
-            unimplemented!()
+        ends_the_program! {
+            pub fn simple_crossing(_a: &Point, _b: &Point, _c: &Point, _d: &Point) -> bool;
+            pub fn distance_from_segment(_x: &Point, _a: &Point, _b: &Point) -> Angle;
         }
     }
 }

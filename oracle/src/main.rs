@@ -1,39 +1,29 @@
 //! The oracle: the crate s2's own code behind the line protocol of `ask`, and the tools that compare
 //! the two. The scripts in the folder above run it; README.md there says how.
 
-mod answer;
-mod bbox;
-mod beside;
-mod boxes;
-mod check;
-mod common;
-mod differences;
+mod base;
+mod doors;
 mod draw;
-mod edges;
-mod examples;
-mod growth;
-mod layers;
-mod lines;
-mod malformed;
-mod ops;
-mod places;
-mod plan;
+mod kind;
+mod kinds;
+mod program;
 mod programs;
-mod question;
-mod refusals;
-mod rng;
-mod streams;
-mod tally;
-mod vectors;
 
 use std::io::{self, Read, Write};
 use std::process::ExitCode;
 
-use programs::{Program, Tried};
+use doors::{check, edges, plan, tally, vectors};
+use program::{Program, Tried};
 
 const USAGE: &str = "usage: oracle answer | questions COUNT SEED | tally [--arms] QUESTIONS JUDGE OTHER
-       | vectors | edges DIR | check | cases [boxes] | stream-answer | streams COUNT SEED COMMAND LIMIT DIR
-       | boxes-answer | boxes COUNT SEED COMMAND LIMIT DIR";
+       | vectors | edges DIR | check | cases [PROGRAM]";
+
+fn usage() -> io::Error {
+    let doors = |program: &Program| {
+        format!("\n       | {} | {} COUNT SEED COMMAND LIMIT DIR", program.answer_door, program.run_door)
+    };
+    io::Error::other(USAGE.to_string() + &programs::ALL.iter().map(doors).collect::<String>())
+}
 
 fn main() -> ExitCode {
     let words: Vec<String> = std::env::args().skip(1).collect();
@@ -51,27 +41,30 @@ fn main() -> ExitCode {
 
 fn run(words: &[&str]) -> io::Result<u8> {
     match words {
-        ["answer"] => answer::serve(io::stdin().lock(), io::stdout().lock()).map(|_| 0),
+        ["answer"] => doors::answer(io::stdin().lock(), io::stdout().lock()).map(|_| 0),
         ["questions", count, seed] => questions(count, seed).map(|_| 0),
         ["tally", questions, judge, other] => tally(questions, judge, other, false),
         ["tally", "--arms", questions, judge, other] => tally(questions, judge, other, true),
         ["vectors"] => io::stdout().write_all(&vectors::bytes()).map(|_| 0),
         ["edges", folder] => write_edges(folder).map(|_| 0),
         ["check"] => Ok(u8::from(check::run() > 0)),
-        ["stream-answer"] => program_answer(&streams::PROGRAM),
-        ["boxes-answer"] => program_answer(&boxes::PROGRAM),
-        ["streams", count, seed, command, limit, folder] => {
-            let tried = Tried { command, limit, folder };
-            programs::run(&streams::PROGRAM, whole(count)? as usize, whole(seed)?, &tried)
+        ["cases"] => cases(&programs::ALL[0]),
+        ["cases", name] => cases(program(|program| program.name == *name)?),
+        [door] => program_answer(program(|program| program.answer_door == *door)?),
+        [door, count, seed, command, limit, folder] => {
+            let program = program(|program| program.run_door == *door)?;
+            program::run(program, whole(count)? as usize, whole(seed)?, &Tried { command, limit, folder })
         }
-        ["boxes", count, seed, command, limit, folder] => {
-            let tried = Tried { command, limit, folder };
-            programs::run(&boxes::PROGRAM, whole(count)? as usize, whole(seed)?, &tried)
-        }
-        ["cases"] => io::stdout().write_all(streams::cases::text().as_bytes()).map(|_| 0),
-        ["cases", "boxes"] => io::stdout().write_all(boxes::cases::text().as_bytes()).map(|_| 0),
-        _ => Err(io::Error::other(USAGE)),
+        _ => Err(usage()),
     }
+}
+
+fn program(is_it: impl Fn(&Program) -> bool) -> io::Result<&'static Program> {
+    programs::ALL.iter().find(|program| is_it(program)).ok_or_else(usage)
+}
+
+fn cases(program: &Program) -> io::Result<u8> {
+    io::stdout().write_all((program.cases)().as_bytes()).map(|_| 0)
 }
 
 /// Writes what the program writes for this standard input, and gives the status that `./run` ends with.
@@ -82,7 +75,7 @@ fn program_answer(program: &Program) -> io::Result<u8> {
         Err(_) => (program.unread)(),
     };
     io::stdout().write_all(text.as_bytes())?;
-    Ok(programs::status(&text))
+    Ok(program::status(&text))
 }
 
 fn whole(word: &str) -> io::Result<u64> {

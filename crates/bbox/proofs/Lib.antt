@@ -12,3 +12,5 @@ pub mod Room
 pub mod Round
 pub mod Answers
 pub mod Examples
+pub mod Spaces
+pub mod Promises

@@ -12,6 +12,7 @@ const NORTHMOST: i64 = 900000000;
 const SOUTHMOST: i64 = -900000000;
 
 // West, south, east, north.
+#[repr(C)]
 pub struct Bounds {
     pub west: i64,
     pub south: i64,
@@ -99,6 +100,8 @@ fn is_settled(b: Bounds) -> bool
 }
 
 // Whether reading can give a box.
+// Laws: Given.reads-given; Round.round-trip (together: just the boxes that reading gives).
+// Ruled out: of [-180, 0, 180, 0]: no; of [0, 0, -180, 0]: yes; of [0, 1, 0, 0]: yes.
 pub fn can_give(b: Bounds) -> bool
     ensures { λ r. ⌜ r ≡ givable b ⌝ }
 {

@@ -14,6 +14,7 @@ ghost use Rattle.bbox.specs.Grammar.{isSpace};
 ghost use Rattle.bbox.specs.Reading.{spacesOf, elementOf, fourOf, zerosUnder, readOf};
 
 // What reading gives: 0 and the box, or a refusal and four zeros.
+#[repr(C)]
 pub struct Answer {
     pub refusal: u8,
     pub value: Bounds,
@@ -111,6 +112,10 @@ fn refused(refusal: u8) -> Answer
 }
 
 // Reads a bbox array: 8 for bad text, then 9 for a number out of range or the south above the north.
+// Laws: over the grammar, `Array`: Exactly.read-array, Exactly.bad-text, Exactly.bad-text-only,
+// Exactly.one-meaning; Given.accepted-is, Given.reads-given, Given.zeros.
+// Ruled out: of `[01,0,0,0]`: a box; of `[-180,0,0,0]`: west -180; of `[0,91,0,0`: 9 (it is 8: the
+// whole text first); of `[0,1,0,0]`: a box.
 pub fn read(s: &[u8]) -> Answer
     ensures { λ r. ⌜ r ≡ readOf (now (s .entry)) ⌝ }
 {

@@ -161,6 +161,11 @@ fn text_of(b: Bounds) -> Text
 
 // Writes a box at the start of out: 9 for a box that reading cannot give, then 6 where out is too short.
 // A refused writing writes nothing, and the bytes after the text stay.
+// Laws: Round.round-trip, Round.fewest, Round.same-text; Written.array-written,
+// Written.minus-below, Written.no-minus-zero; Answers.box-stands, Answers.box-unaltered,
+// Answers.enough; Room.longest.
+// Ruled out: of [0, 0, 0, 0]: `[-0,0,0,0]`; of west 0.5: `[0.50,..`; of west 0.0000001: `[0,..`; of
+// east -180: any text.
 pub fn write(b: Bounds, out: &mut [u8]) -> Written
     ensures { λ r. ⌜ r ≡ wroteBox b (length (now (out .entry))) ⌝ }
     ensures { λ _. ⌜ now (out .exit) ≡ leftBox b (now (out .entry)) ⌝ }

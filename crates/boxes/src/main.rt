@@ -1,6 +1,6 @@
 // The program `boxes`: GeoJSON bbox arrays on standard input, one a line, and the common region of all of
 // them on standard output, as bbox arrays, one a line. What the lines mean and what text goes out is the
-// library's (the crate `lines`).
+// library's (the crate `box_lines`).
 use consts::BAD_LIST;
 use consts::BAD_RECORD;
 use libc::STDERR_FILENO;
@@ -31,7 +31,7 @@ fn answer(bytes: &mut [u8], out: &mut [u8]) {
     if n > LIMIT {
         return refuse(BAD_LIST, out);
     }
-    let w = lines::boxes_text(&bytes[..n], out);
+    let w = box_lines::boxes_text(&bytes[..n], out);
     write(w, out)
 }
 

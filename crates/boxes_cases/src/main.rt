@@ -92,7 +92,7 @@ fn print(s: &[u8]) {
 // Writes the answer to an input.
 fn answer(s: &[u8]) {
     let mut out = [0u8; ROOM];
-    let w = lines::boxes_text(s, &mut out);
+    let w = box_lines::boxes_text(s, &mut out);
     print_front(&out, w.count);
 }
 

@@ -1,2 +1,3 @@
--- What the exported functions' contracts mean, where they say more than the operations beneath.
+-- What the library promises C where its contracts say more than the operations beneath (Promises), and the laws that give it (Laws).
 mod Laws
+mod Promises

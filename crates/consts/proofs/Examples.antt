@@ -4,7 +4,7 @@ use lib.Ieee.{binary64, ofBits, nan, lt, le, eq}
 use Rattle.consts.specs.Constants.{PI, NEG-PI, TURN, NEG-TURN, THREE-PI, NEG-THREE-PI, FOUR-PI}
 use Rattle.consts.specs.Answer.{ZERO, zeroUnder}
 use Rattle.consts.specs.Refusal.{number, badMargin}
-use Rattle.consts.specs.Remainder.{remainderOf, within, remainderAnswer}
+use Rattle.consts.specs.Remainder.{remainderOf, withinFourPi, remainder}
 
 -- PI and 3 PI are ties: none is taken off the first, and two turns off the second
 pub half-turn : (remainderOf PI ≡ PI) × (remainderOf NEG-PI ≡ NEG-PI)
@@ -30,6 +30,6 @@ unfolding remainderOf ofBits
 beside-ties = (refl, refl)
 
 -- the next double above 4 PI, and the NaN
-pub refused : (remainderAnswer (ofBits binary64 0x402921FB54442D19) ≡ zeroUnder (number badMargin)) × (remainderAnswer nan ≡ zeroUnder (number badMargin))
-unfolding remainderAnswer within ofBits le lt eq
+pub refused : (remainder (ofBits binary64 0x402921FB54442D19) ≡ zeroUnder (number badMargin)) × (remainder nan ≡ zeroUnder (number badMargin))
+unfolding remainder withinFourPi ofBits le lt eq
 refused = (refl, refl)

@@ -1,5 +1,7 @@
 pub mod Readings
 pub mod Decisions
+pub mod Refusals
+pub mod Sizes
 pub mod Differences
 pub mod Doubles
 pub mod Sums
@@ -9,3 +11,4 @@ pub mod Remainders
 pub mod Turns
 pub mod Examples
 pub mod Determined
+pub mod Promises

@@ -19,7 +19,7 @@ use Rattle.consts.specs.Constants.{PI, NEG-PI}
 use Rattle.consts.specs.Answer.{told}
 use Rattle.consts.specs.Reading.{plain, inReach, LEAST, MOST}
 use Rattle.consts.specs.Refusal.{number, accepted, badMargin}
-use Rattle.consts.specs.Remainder.{signed, value, double, turn, nearest, nearestTo, remainderOf, IsRem, within, remainderAnswer, IsAnswer}
+use Rattle.consts.specs.Remainder.{signed, value, double, turn, nearest, nearestTo, remainderOf, IsRem, withinFourPi, remainder, IsAnswer}
 use Rattle.consts.proofs.Differences.{apart, abs-signed, abs-minus}
 use Rattle.consts.proofs.Doubles.{ok, num-of, finite-num, units, Size, own-size, apart-size, double-fits, double-value, double-finite, double-plain, one-double}
 use Rattle.consts.proofs.Nearest.{Near, nearest-near, nearest-none}
@@ -91,8 +91,8 @@ module _ (s : Bool) (m : ℕ) (e : ℤ) (f : T (fits binary64 (fin s m e))) wher
       }
 
 -- a number within 4 PI is finite
-pub within-finite : (x : Float) → within x ≡ true → finite x ≡ true
-unfolding within le lt eq ofBits
+pub within-finite : (x : Float) → withinFourPi x ≡ true → finite x ≡ true
+unfolding withinFourPi le lt eq ofBits
 within-finite nan h = absurd (false≢true h)
 within-finite (inf true) h = absurd (false≢true h)
 within-finite (inf false) h = absurd (false≢true h)
@@ -104,7 +104,7 @@ finite-is (inf s) f h = absurd (false≢true h)
 finite-is (fin s m e) f h = let g = ok (fits binary64 (fin s m e)) f in subst (IsRem (fin s m e)) (sym (made s m e g)) (double-is s m e g)
 
 -- the definition's double is the remainder
-pub remainder-is : (x : Float) → fits binary64 x ≡ true → within x ≡ true → IsRem x (remainderOf x)
+pub remainder-is : (x : Float) → fits binary64 x ≡ true → withinFourPi x ≡ true → IsRem x (remainderOf x)
 remainder-is x f h = finite-is x f (within-finite x h)
 
 pub remainder-fits : (x : Float) → fits binary64 (remainderOf x) ≡ true
@@ -182,7 +182,7 @@ pub pi-in-reach : (x : Float) → Num x ≡ true → le NEG-PI x ≡ true → le
 unfolding inReach
 pi-in-reach x n p q = and-of (le-trans LEAST NEG-PI x (far-nums .0) neg-pi-num n (further-out .0) p) (le-trans x PI MOST n pi-num (far-nums .1) q (further-out .1))
 
-module _ (x : Float) (f : fits binary64 x ≡ true) (w : within x ≡ true) where
+module _ (x : Float) (f : fits binary64 x ≡ true) (w : withinFourPi x ≡ true) where
   pub remainder-low : le NEG-PI (remainderOf x) ≡ true
   remainder-low = rem-between x (remainderOf x) (remainder-fits x) (remainder-is x f w) .0
 
@@ -200,23 +200,23 @@ module _ (x : Float) (f : fits binary64 x ≡ true) (w : within x ≡ true) wher
 
 -- ---- the answer: it has its properties, and no other has
 module _ (x : Float) (f : fits binary64 x ≡ true) where
-  pub answer-is : IsAnswer x (remainderAnswer x)
-  unfolding remainderAnswer
+  pub answer-is : IsAnswer x (remainder x)
+  unfolding remainder
   answer-is =
       record {
-        refused = under (within x);
+        refused = under (withinFourPi x);
         taken = λ w. simp w (remainder-is x f w);
-        left = λ w. simp w;
+        refused-value = λ w. simp w;
       }
     where
       under : (b : Bool) → told (cond b (number accepted) (number badMargin)) (remainderOf x) .refusal ≡ cond b (number accepted) (number badMargin)
       under true = refl
       under false = refl
 
-  pub one-answer : (a : Number) → fits binary64 (a .value) ≡ true → IsAnswer x a → a ≡ remainderAnswer x
-  unfolding remainderAnswer
-  one-answer a g h = go (within x) refl (h .refused)
+  pub one-answer : (a : Number) → fits binary64 (a .value) ≡ true → IsAnswer x a → a ≡ remainder x
+  unfolding remainder
+  one-answer a g h = go (withinFourPi x) refl (h .refused)
     where
-      go : (b : Bool) → within x ≡ b → a .refusal ≡ cond b (number accepted) (number badMargin) → a ≡ told (cond b (number accepted) (number badMargin)) (remainderOf x)
+      go : (b : Bool) → withinFourPi x ≡ b → a .refusal ≡ cond b (number accepted) (number badMargin) → a ≡ told (cond b (number accepted) (number badMargin)) (remainderOf x)
       go true w e = λ i. record { refusal = e i; value = is-remainder x (a .value) f g (h .taken w) i }
-      go false w e = λ i. record { refusal = e i; value = h .left w i }
+      go false w e = λ i. record { refusal = e i; value = h .refused-value w i }

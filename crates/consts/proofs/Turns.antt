@@ -15,7 +15,7 @@ use Rattle.order.proofs.Facts.{tests}
 use Rattle.order.proofs.Ranks.{and-l, and-r}
 use Rattle.consts.specs.Constants.{PI, NEG-PI, TURN, THREE-PI, NEG-THREE-PI, FOUR-PI, NEG-FOUR-PI}
 use Rattle.consts.specs.Reading.{plain}
-use Rattle.consts.specs.Remainder.{signed, value, double, turn, nearest, remainderOf, within}
+use Rattle.consts.specs.Remainder.{signed, value, double, turn, nearest, remainderOf, withinFourPi}
 use Rattle.consts.proofs.Differences.{minus-more}
 use Rattle.consts.proofs.Doubles.{ok, units, num-of, plain-made}
 use Rattle.consts.proofs.Sums.{add-made}
@@ -74,8 +74,8 @@ module _ (s : Bool) (m : ℕ) (e : ℤ) (f : T (fits binary64 (fin s m e))) wher
       ∙ sym (by-turns 0 (nearest-0 k turn half two-halves half-pos u))
 
 -- ---- the comparisons
-four-size : (s : Bool) (m : ℕ) (e : ℤ) → T (fits binary64 (fin s m e)) → within (fin s m e) ≡ true → units m e ≤ turn + turn
-unfolding within key
+four-size : (s : Bool) (m : ℕ) (e : ℤ) → T (fits binary64 (fin s m e)) → withinFourPi (fin s m e) ≡ true → units m e ≤ turn + turn
+unfolding withinFourPi key
 four-size true m e f w =
     let x = fin true m e in
     let h = sym (le-key binary64 NEG-FOUR-PI x (more-nums .3) (num-of true m e f)) ∙ and-l (le NEG-FOUR-PI x) (le x FOUR-PI) w in
@@ -89,10 +89,10 @@ four-size false m e f w =
 pub data Bounded : Float → Type 0 where
   parts : {s : Bool} {m : ℕ} {e : ℤ} → T (fits binary64 (fin s m e)) → units m e ≤ turn + turn → Bounded (fin s m e)
 
-pub is-bounded : (x : Float) → fits binary64 x ≡ true → within x ≡ true → Bounded x
+pub is-bounded : (x : Float) → fits binary64 x ≡ true → withinFourPi x ≡ true → Bounded x
 is-bounded x f w = go x (ok (fits binary64 x) f) w (within-finite x w)
   where
-    go : (y : Float) → T (fits binary64 y) → within y ≡ true → finite y ≡ true → Bounded y
+    go : (y : Float) → T (fits binary64 y) → withinFourPi y ≡ true → finite y ≡ true → Bounded y
     go nan g u i = absurd (false≢true i)
     go (inf s) g u i = absurd (false≢true i)
     go (fin s m e) g u i = parts g (four-size s m e g u)

@@ -6,7 +6,7 @@ use Prim.Native.Nat.{ℕ}
 use lib.Ieee.{Float, binary64, ofBits}
 use Rattle.consts.specs.declared.answer.YesNo.{YesNo}
 use Rattle.consts.specs.declared.answer.Number.{Number}
-use Rattle.consts.specs.Refusal.{number, accepted, given}
+use Rattle.consts.specs.Refusal.{Reason, number, accepted, given, GivenExactly, GivenInTurn}
 
 abbrev pub ZERO : Float
 ZERO = ofBits binary64 0
@@ -37,3 +37,17 @@ told n x = given n (numberAnswer x) (zeroUnder n)
 pub record Decides (a : YesNo) (P : Type 0) : Type 0 where
   pub accept : a .refusal ≡ number accepted
   pub exactly : (a .value ≡ true) ↔ P
+
+-- the test is refused for the reason r, and says no, exactly when P; or for r when P, and then for s when Q
+abbrev pub NoExactly : YesNo → Reason → Type 0 → Type 0
+NoExactly a r P = GivenExactly (λ (y : YesNo). y .refusal) a (noUnder (number r)) P
+
+abbrev pub NoInTurn : YesNo → Reason → Type 0 → Reason → Type 0 → Type 0
+NoInTurn a r P s Q = GivenInTurn (λ (y : YesNo). y .refusal) a (noUnder (number r)) (noUnder (number s)) P Q
+
+-- the same of a number, which is then zero
+abbrev pub ZeroExactly : Number → Reason → Type 0 → Type 0
+ZeroExactly a r P = GivenExactly (λ (y : Number). y .refusal) a (zeroUnder (number r)) P
+
+abbrev pub ZeroInTurn : Number → Reason → Type 0 → Reason → Type 0 → Type 0
+ZeroInTurn a r P s Q = GivenInTurn (λ (y : Number). y .refusal) a (zeroUnder (number r)) (zeroUnder (number s)) P Q

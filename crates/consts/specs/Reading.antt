@@ -1,4 +1,5 @@
 -- How a number that comes in is read. Definitions only; the laws are in proofs/Readings.antt.
+use mathlib.Core.Path.{_≡_}
 use mathlib.Core.Bool.{Bool, _&&_, cond}
 use Prim.Native.Nat.{ℕ}
 use lib.Ieee.{Float, binary64, ofBits, le, eq}
@@ -20,6 +21,10 @@ inReach x = le LEAST x && le x MOST
 -- negative zero is read as zero
 unfoldable pub plain : Float → Float
 plain x = cond (eq x ZERO) ZERO x
+
+-- a number that is no negative zero
+abbrev pub NoMinus : Float → Type 0
+NoMinus x = plain x ≡ x
 
 -- a point, a margin or an error, under 0 or, where it is out of reach, under the number n
 unfoldable pub readNumber : Float → ℕ → Number

@@ -1,5 +1,7 @@
 -- Document 01's refusal numbers, and those that document 02 adds: why something is refused, and the number of each. Definitions only.
+use mathlib.Core.Path.{_≡_}
 use mathlib.Core.Bool.{cond}
+use mathlib.Core.Logic.{_↔_}
 use Prim.Native.Nat.{ℕ}
 use lib.Dec.{eqb}
 
@@ -44,3 +46,18 @@ firstRefusal m n = cond (eqb m 0) n m
 -- the answer where the refusal number is 0, and else the result that document 01 states beside the number
 abbrev pub given : {A : Type 0} → ℕ → A → A → A
 given n answer otherwise = cond (eqb n 0) answer otherwise
+
+-- ---- "given exactly when", for the promises
+-- Refused for one reason: the answer a has the number of `refused` exactly when P, and is then `refused`; else its number is 0.
+pub record GivenExactly {A : Type 0} (numberOf : A → ℕ) (a refused : A) (P : Type 0) : Type 0 where
+  pub exactly : (numberOf a ≡ numberOf refused) ↔ P
+  pub result : P → a ≡ refused
+  pub accepts : (P → ⊥) → numberOf a ≡ number accepted
+
+-- For two reasons, P before Q: the second counts where the first does not hold.
+pub record GivenInTurn {A : Type 0} (numberOf : A → ℕ) (a first second : A) (P Q : Type 0) : Type 0 where
+  pub exactly : (numberOf a ≡ numberOf first) ↔ P
+  pub result : P → a ≡ first
+  pub exactly-second : (numberOf a ≡ numberOf second) ↔ ((P → ⊥) × Q)
+  pub result-second : (P → ⊥) → Q → a ≡ second
+  pub accepts : (P → ⊥) → (Q → ⊥) → numberOf a ≡ number accepted

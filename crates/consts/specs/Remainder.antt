@@ -12,7 +12,7 @@ use Rattle.order.specs.Key.{mag}
 use Rattle.consts.specs.declared.answer.Number.{Number}
 use Rattle.consts.specs.Constants.{TURN, FOUR-PI, NEG-FOUR-PI}
 use Rattle.consts.specs.Answer.{ZERO, told}
-use Rattle.consts.specs.Reading.{plain}
+use Rattle.consts.specs.Reading.{NoMinus}
 use Rattle.consts.specs.Refusal.{number, accepted, badMargin}
 
 -- ---- doubles as whole numbers of units
@@ -69,21 +69,21 @@ pub record IsRem (x r : Float) : Type 0 where
   pub tie : natAbs (value r) * 2 ≡ turn → natAbs n % 2 ≡ 0
   pub finite-x : finite x ≡ true
   pub finite-r : finite r ≡ true
-  pub no-minus-zero : plain r ≡ r
+  pub no-minus-zero : NoMinus r
 
 -- ---- the answer
 -- no NaN, and of size at most 4 PI
-unfoldable pub within : Float → Bool
-within x = le NEG-FOUR-PI x && le x FOUR-PI
+unfoldable pub withinFourPi : Float → Bool
+withinFourPi x = le NEG-FOUR-PI x && le x FOUR-PI
 
 abbrev pub remainderRefusal : Float → ℕ
-remainderRefusal x = cond (within x) (number accepted) (number badMargin)
+remainderRefusal x = cond (withinFourPi x) (number accepted) (number badMargin)
 
-unfoldable pub remainderAnswer : Float → Number
-remainderAnswer x = told (remainderRefusal x) (remainderOf x)
+unfoldable pub remainder : Float → Number
+remainder x = told (remainderRefusal x) (remainderOf x)
 
 -- The same by its properties.
 pub record IsAnswer (x : Float) (a : Number) : Type 0 where
   pub refused : a .refusal ≡ remainderRefusal x
-  pub taken : within x ≡ true → IsRem x (a .value)
-  pub left : within x ≡ false → a .value ≡ ZERO
+  pub taken : withinFourPi x ≡ true → IsRem x (a .value)
+  pub refused-value : withinFourPi x ≡ false → a .value ≡ ZERO

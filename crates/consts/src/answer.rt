@@ -1,7 +1,7 @@
 // The refusal numbers of documents 01 and 02 by name (specs/Refusal.antt has what each means), and the
 // two answers that every layer gives: a yes or no, and a number, each with its refusal number beside it.
 ghost use mathlib.Core.Path.{_≡_};
-ghost use Rattle.consts.specs.Answer.{yesNo, numberAnswer, noUnder, zeroUnder};
+ghost use Rattle.consts.specs.Answer.{yesNo, numberAnswer, noUnder, zeroUnder, test, told};
 ghost use Rattle.consts.specs.Refusal.{firstRefusal};
 
 pub const ACCEPTED: u8 = 0;
@@ -25,12 +25,15 @@ pub const BAD_TEXT: u8 = 8;
 pub const BAD_BOX: u8 = 9;
 
 // A test's answer. A refused test says no.
+#[repr(C)]
 pub struct YesNo {
     pub refusal: u8,
     pub value: bool,
 }
 
 impl YesNo {
+    // Laws: none of its own.
+    // Ruled out: of yes: no; of yes: yes under 1.
     pub fn accepted(value: bool) -> YesNo
         ensures { λ r. ⌜ r ≡ yesNo value ⌝ }
     {
@@ -40,6 +43,8 @@ impl YesNo {
         }
     }
 
+    // Laws: none of its own.
+    // Ruled out: of 2: yes under 2; of 2: no under 0.
     pub fn refused(refusal: u8) -> YesNo
         ensures { λ r. ⌜ r ≡ noUnder refusal ⌝ }
     {
@@ -48,15 +53,31 @@ impl YesNo {
             value: false,
         }
     }
+
+    // The answer, where the refusal number is 0.
+    // Laws: none of its own.
+    // Ruled out: of 0 and yes: no; of 2 and yes: yes under 2.
+    pub fn given(refusal: u8, value: bool) -> YesNo
+        ensures { λ r. ⌜ r ≡ test refusal value ⌝ }
+    {
+        if refusal == ACCEPTED {
+            YesNo::accepted(value)
+        } else {
+            YesNo::refused(refusal)
+        }
+    }
 }
 
 // A number as an answer. A refused one is zero.
+#[repr(C)]
 pub struct Number {
     pub refusal: u8,
     pub value: f64,
 }
 
 impl Number {
+    // Laws: none of its own.
+    // Ruled out: of 3: 0; of 3: 3 under 1.
     pub fn accepted(value: f64) -> Number
         ensures { λ r. ⌜ r ≡ numberAnswer value ⌝ }
     {
@@ -66,6 +87,8 @@ impl Number {
         }
     }
 
+    // Laws: none of its own.
+    // Ruled out: of 4: a NaN under 4; of 4: 0 under 0.
     pub fn refused(refusal: u8) -> Number
         ensures { λ r. ⌜ r ≡ zeroUnder refusal ⌝ }
     {
@@ -74,9 +97,24 @@ impl Number {
             value: 0.0,
         }
     }
+
+    // The answer, where the refusal number is 0.
+    // Laws: none of its own.
+    // Ruled out: of 0 and 3: 0; of 4 and 3: 3 under 4.
+    pub fn given(refusal: u8, value: f64) -> Number
+        ensures { λ r. ⌜ r ≡ told refusal value ⌝ }
+    {
+        if refusal == ACCEPTED {
+            Number::accepted(value)
+        } else {
+            Number::refused(refusal)
+        }
+    }
 }
 
 // Of two refusals the one that is given: the second counts where the first is 0.
+// Laws: the left operand decides before the right: Refusals.chosen-in-turn.
+// Ruled out: of 1 and 3: 3; of 0 and 3: 0.
 pub fn first_refusal(m: u8, n: u8) -> u8
     ensures { λ r. ⌜ r ≡ firstRefusal m n ⌝ }
 {

@@ -9,7 +9,7 @@ use crate::answer::Number;
 use crate::reading::zero_read;
 ghost use mathlib.Core.Bool.{true};
 ghost use mathlib.Core.Path.{_≡_};
-ghost use Rattle.consts.specs.Remainder.{within, remainderOf, remainderAnswer};
+ghost use Rattle.consts.specs.Remainder.{withinFourPi, remainderOf, remainder};
 
 pub const PI: f64 = 3.141592653589793;
 
@@ -38,7 +38,7 @@ pub const DBL_EPSILON: f64 = 2.220446049250313e-16;
 // two from there on: PI and 3 PI lie halfway between two multiples of a turn, and the even one is
 // taken off.
 fn reduced(x: f64) -> f64
-    requires { ⌜ within x ≡ true ⌝ }
+    requires { ⌜ withinFourPi x ≡ true ⌝ }
     ensures { λ r. ⌜ r ≡ remainderOf x ⌝ }
 {
     if x > PI {
@@ -58,8 +58,11 @@ fn reduced(x: f64) -> f64
 
 // x minus the whole multiple of 2 PI nearest to it, the even multiple where two are equally near:
 // exact, from -PI to PI, and never negative zero. A NaN, or an x of size over 4 PI, is refused.
+// Laws: Remainders.answer-is, Remainders.one-answer, Remainders.only-remainder.
+// Ruled out: of 3 PI, a tie: PI (it is -PI); of 2 PI: 2 PI; of 402921FB54442D19, above 4 PI:
+// 3CE0000000000000.
 pub fn remainder(x: f64) -> Number
-    ensures { λ r. ⌜ r ≡ remainderAnswer x ⌝ }
+    ensures { λ r. ⌜ r ≡ remainder x ⌝ }
 {
     if (NEG_FOUR_PI <= x) & (x <= FOUR_PI) {
         Number::accepted(reduced(x))

@@ -11,6 +11,8 @@ const MOST: f64 =
 const LEAST: f64 = -MOST;
 
 // Whether x is no NaN and of size at most 2 ^ 500.
+// Laws: Readings.reach-num, Readings.nan-out, Readings.inf-out.
+// Ruled out: of 2^500: no; of the NaN: yes.
 pub fn in_reach(x: f64) -> bool
     ensures { λ r. ⌜ r ≡ inReach x ⌝ }
 {
@@ -18,6 +20,8 @@ pub fn in_reach(x: f64) -> bool
 }
 
 // Negative zero as zero, and every other number as it is: to add zero does just that, in one instruction.
+// Laws: Readings.plain-key, Readings.plain-plain, Readings.plain-same.
+// Ruled out: of -0: -0; of 0000000000000001, the smallest double above zero: 0.
 pub fn zero_read(x: f64) -> f64
     ensures { λ r. ⌜ r ≡ plain x ⌝ }
 {
@@ -26,6 +30,8 @@ pub fn zero_read(x: f64) -> f64
 
 // A point, a margin or an error: x with zero read, under 0 where it is in reach and under the
 // refusal given where it is not.
+// Laws: Readings.read-in, Readings.read-out.
+// Ruled out: of 1, with 3 for a bad number: 1 under 3; of the NaN, with 3: under 0.
 pub fn read_number(x: f64, refusal: u8) -> Number
     ensures { λ r. ⌜ r ≡ readNumber x refusal ⌝ }
 {

@@ -24,7 +24,7 @@ use Rattle.r1.specs.Line as line
 use Rattle.s1.specs.Circle as circle
 use Rattle.s1.specs.Places.{Valid as LngValid}
 use Rattle.s2.specs.declared.rect.Rect.{Rect}
-use Rattle.s2.specs.Rect.{latitude, empty}
+use Rattle.s2.specs.Zone.{latitude, isEmpty}
 use Rattle.s2.specs.Answers.{rectAnswer, emptyUnder}
 use Rattle.s2.specs.Places.{Valid}
 use Rattle.s2.specs.Reading.{readOne, asRead}
@@ -172,8 +172,8 @@ parts b h =
 
 module _ (b : Bounds) (g : Givable b) where
   -- its longitudes: -PI only at the western end of the whole circle
-  lng-is-valid : circle.valid (rectOf b .lng) ≡ true
-  unfolding circle.valid rectOf
+  lng-is-valid : circle.isValid (rectOf b .lng) ≡ true
+  unfolding circle.isValid rectOf
   lng-is-valid =
       let w = from-seam (b .west) (g .west) in
       let e = from-seam (b .east) (g .east) in
@@ -183,12 +183,12 @@ module _ (b : Bounds) (g : Givable b) where
   unfolding rectOf
   lng-valid = record { lo-double = longitude-fits (b .west) (g .west); hi-double = longitude-fits (b .east) (g .east); is-valid = lng-is-valid }
 
-  lng-not-empty : circle.empty (rectOf b .lng) ≡ false
-  unfolding circle.empty rectOf
+  lng-not-empty : circle.isEmpty (rectOf b .lng) ≡ false
+  unfolding circle.isEmpty rectOf
   lng-not-empty = simp (at-west (b .east) (g .east), g .no-seam, and-false)
 
-  lat-not-empty : line.empty (rectOf b .lat) ≡ false
-  unfolding line.empty rectOf
+  lat-not-empty : line.isEmpty (rectOf b .lat) ≡ false
+  unfolding line.isEmpty rectOf
   lat-not-empty =
       let s = latitude-size (b .south) (g .south) in
       let n = latitude-size (b .north) (g .north) in
@@ -217,8 +217,8 @@ module _ (b : Bounds) (h : givable b ≡ true) where
   pub is-valid : Valid (toRect b .value)
   is-valid = rw accepted-is (valid-made b (parts b h))
 
-  pub not-empty : empty (toRect b .value) ≡ false
-  unfolding empty
+  pub not-empty : isEmpty (toRect b .value) ≡ false
+  unfolding isEmpty
   not-empty = rw accepted-is (lat-not-empty b (parts b h))
 
   -- latitudes from pole to pole, in order
@@ -233,8 +233,8 @@ module _ (b : Bounds) (h : givable b ≡ true) where
       )
 
   -- the western end is -PI exactly where the box is the whole circle, which is FULL; the eastern end never is
-  pub seam : (eq (toRect b .value .lng .lo) NEG-PI ≡ wholeCircle b) × (circle.full (toRect b .value .lng) ≡ wholeCircle b) × (eq (toRect b .value .lng .hi) NEG-PI ≡ false)
-  unfolding rectOf circle.full wholeCircle
+  pub seam : (eq (toRect b .value .lng .lo) NEG-PI ≡ wholeCircle b) × (circle.isFull (toRect b .value .lng) ≡ wholeCircle b) × (eq (toRect b .value .lng .hi) NEG-PI ≡ false)
+  unfolding rectOf circle.isFull wholeCircle
   seam =
       let g = parts b h in
       rw accepted-is (

@@ -3,3 +3,4 @@ pub mod Angles
 pub mod Heights
 pub mod Rises
 pub mod Boxes
+pub mod Promises

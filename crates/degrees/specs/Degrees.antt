@@ -10,7 +10,7 @@ use Rattle.r1.specs.Line as line
 use Rattle.s1.specs.Circle as circle
 use Rattle.s2.specs.declared.rect.Rect.{Rect}
 use Rattle.s2.specs.declared.rect.Answer.{Answer}
-use Rattle.s2.specs.Rect.{box}
+use Rattle.s2.specs.Zone.{box}
 use Rattle.s2.specs.Answers.{rectAnswer, emptyUnder}
 
 -- PI / 180, rounded once, and ten million

@@ -22,6 +22,10 @@ fn degrees_of(w: i64) -> f64
 }
 
 // A whole number of ten-millionths of a degree in radians.
+// Laws: Angles.east, Angles.west, Angles.north, Angles.south, Angles.none; Rises.rises,
+// Rises.one-to-one.
+// Ruled out: of -1,800,000,000: anything but -PI; of 1: what 2 has; of 3: 3E367D07881BB1EA (by a
+// product with 1/10^7).
 pub fn radians_of(w: i64) -> f64
     ensures { λ r. ⌜ r ≡ radians w ⌝ }
 {
@@ -45,6 +49,9 @@ fn rect_of(b: Bounds) -> Rect
 }
 
 // The rectangle of a box that reading can give; any other is refused.
+// Laws: Boxes.is-valid, Boxes.not-empty, Boxes.latitudes, Boxes.seam, Boxes.read-back,
+// Boxes.same-box, Boxes.refused.
+// Ruled out: of [180, 0, 180, 1]: EMPTY longitudes; of [0, 0, -180, 0]: a rectangle, under 0.
 pub fn to_rect(b: Bounds) -> Answer
     ensures { λ r. ⌜ r ≡ toRect b ⌝ }
 {

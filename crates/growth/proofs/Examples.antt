@@ -9,14 +9,18 @@ use Rattle.consts.specs.Refusal.{firstRefusal}
 use Rattle.consts.specs.Reading.{inReach, plain}
 use Rattle.r1.specs.Line as line
 use Rattle.s1.specs.Circle as circle
-use Rattle.s1.specs.Circle.{fast, seam, distance}
+use Rattle.s1.specs.Circle.{fastContains, seam, positiveDistance}
 use Rattle.s1.specs.Reading.{onCircle}
 use Rattle.s2.specs.declared.rect.Rect.{Rect}
-use Rattle.s2.specs.Rect.{at, box, EMPTY, latitude, valid, validPoint, grown}
+use Rattle.s2.specs.Zone as zone
+use Rattle.s2.specs.Zone.{at, box, EMPTY, latitude, isValid, isLatLng}
 use Rattle.s2.specs.Reading.{rectInReach, asRead, readOne, readPoint}
 use Rattle.s2.specs.Answers.{rectAnswer, emptyUnder, add}
-use Rattle.growth.specs.Growth.{pointsOf, wholePoints, under, firstBad, grownAll, grownFrom, grownByPoints, grownBy}
-use Rattle.growth.specs.Scan.{enlarged, enlargedAll, scannedFrom, handedBack, scannedByPoints, scanned}
+use Rattle.lists.specs.Lists.{wholeLength}
+use Rattle.lists.specs.Points.{pointsOf}
+use Rattle.lists.specs.Refused.{firstNumber}
+use Rattle.growth.specs.Growth.{under, grownAll, grownFrom, grownByPoints, grow}
+use Rattle.growth.specs.Scan.{enlarge, enlargeAll, scannedFrom, handedBack, scannedByPoints, scan}
 
 -- numbers by their bits: 0, -0, 0.5, -0.5, 1, 2, 4
 abbrev zero : Float
@@ -55,37 +59,37 @@ unknown = square nan one
 
 pub record Examples : Type 0 where
   -- two points enlarge the start in turn: the second moves the western edge, which is nearer
-  pub grows : grownBy start (half ∷ two ∷ one ∷ west ∷ []) ≡ rectAnswer (box (line.ends zero one) (circle.ends west two))
+  pub grows : grow start (half ∷ two ∷ one ∷ west ∷ []) ≡ rectAnswer (box (line.ends zero one) (circle.ends west two))
   -- the standard empty grown by the longitude -PI holds the seam, written PI
-  pub seam-grows : grownBy EMPTY (zero ∷ NEG-PI ∷ []) ≡ rectAnswer (box (line.ends zero zero) (circle.ends PI PI))
+  pub seam-grows : grow EMPTY (zero ∷ NEG-PI ∷ []) ≡ rectAnswer (box (line.ends zero zero) (circle.ends PI PI))
   -- by no point the start is answered as it is read
-  pub no-points : grownBy start [] ≡ rectAnswer (square zero one)
+  pub no-points : grow start [] ≡ rectAnswer (square zero one)
   -- the longitude 4 is no point: the whole list is refused with 3, and the start keeps its bits
-  pub bad-point : grownBy start (half ∷ two ∷ one ∷ four ∷ []) ≡ under 3 start
+  pub bad-point : grow start (half ∷ two ∷ one ∷ four ∷ []) ≡ under 3 start
   -- 1 and 2 of the start come before 3, and answer the standard empty
-  pub bad-start : grownBy unknown (one ∷ four ∷ []) ≡ emptyUnder 1
-  pub tall-start : grownBy tall (one ∷ four ∷ []) ≡ emptyUnder 2
+  pub bad-start : grow unknown (one ∷ four ∷ []) ≡ emptyUnder 1
+  pub tall-start : grow tall (one ∷ four ∷ []) ≡ emptyUnder 2
   -- 5 comes before all, and hands back even a start that is not valid
-  pub half-point : grownBy start (one ∷ []) ≡ under 5 start
-  pub half-point-first : grownBy unknown (one ∷ []) ≡ under 5 unknown
+  pub half-point : grow start (one ∷ []) ≡ under 5 start
+  pub half-point-first : grow unknown (one ∷ []) ≡ under 5 unknown
   -- the worker: growth's number, and what is left in the box
-  pub enlarges : enlarged start (at half two) ≡ under 0 (box (line.ends zero one) (circle.ends zero two))
-  pub leaves-bad-point : enlarged start (at one four) ≡ under 3 start
-  pub leaves-bad-box : enlarged tall (at half half) ≡ under 2 tall
-  pub leaves-bad-list : enlargedAll start (half ∷ two ∷ one ∷ four ∷ []) ≡ under 3 start
+  pub enlarges : enlarge start (at half two) ≡ under 0 (box (line.ends zero one) (circle.ends zero two))
+  pub leaves-bad-point : enlarge start (at one four) ≡ under 3 start
+  pub leaves-bad-box : enlarge tall (at half half) ≡ under 2 tall
+  pub leaves-bad-list : enlargeAll start (half ∷ two ∷ one ∷ four ∷ []) ≡ under 3 start
   -- points one by one: the bad one is passed over, and its number is kept
-  pub scans : scanned start (half ∷ two ∷ one ∷ four ∷ half ∷ half ∷ []) ≡ under 3 (box (line.ends zero one) (circle.ends zero two))
+  pub scans : scan start (half ∷ two ∷ one ∷ four ∷ half ∷ half ∷ []) ≡ under 3 (box (line.ends zero one) (circle.ends zero two))
   -- by bad points alone the start keeps its bits; by no point it is answered as it is read
-  pub scans-bad-points : scanned start (one ∷ four ∷ []) ≡ under 3 start
-  pub scans-nothing : scanned start [] ≡ rectAnswer (square zero one)
+  pub scans-bad-points : scan start (one ∷ four ∷ []) ≡ under 3 start
+  pub scans-nothing : scan start [] ≡ rectAnswer (square zero one)
   -- a start is read before the points, and by no point too; before it comes 5
-  pub scans-unknown : scanned unknown [] ≡ emptyUnder 1
-  pub scans-tall : scanned tall [] ≡ emptyUnder 2
-  pub scans-unknown-first : scanned unknown (one ∷ four ∷ []) ≡ emptyUnder 1
-  pub scans-half-point : scanned unknown (one ∷ []) ≡ under 5 unknown
+  pub scans-unknown : scan unknown [] ≡ emptyUnder 1
+  pub scans-tall : scan tall [] ≡ emptyUnder 2
+  pub scans-unknown-first : scan unknown (one ∷ four ∷ []) ≡ emptyUnder 1
+  pub scans-half-point : scan unknown (one ∷ []) ≡ under 5 unknown
 
 pub examples : Examples
-unfolding grownBy grownByPoints grownFrom wholePoints pointsOf firstBad firstRefusal grownAll add enlarged enlargedAll scannedFrom handedBack scannedByPoints scanned readOne readPoint asRead rectInReach valid validPoint latitude onCircle inReach plain grown line.grown line.empty circle.grown circle.valid circle.empty fast seam distance ofBits lt le eq Ieee.add Ieee.sub
+unfolding grow grownByPoints grownFrom wholeLength pointsOf firstNumber firstRefusal grownAll add enlarge enlargeAll scannedFrom handedBack scannedByPoints scan readOne readPoint asRead rectInReach isValid isLatLng latitude onCircle inReach plain zone.add line.add line.isEmpty circle.add circle.isValid circle.isEmpty fastContains seam positiveDistance ofBits lt le eq Ieee.add Ieee.sub
 examples =
     record {
       grows = refl;

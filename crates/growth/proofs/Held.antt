@@ -29,16 +29,17 @@ use Rattle.s1.proofs.Limits.{OnCircle}
 use Rattle.s2.specs.declared.latlng.LatLng.{LatLng}
 use Rattle.s2.specs.declared.rect.Rect.{Rect}
 use Rattle.s2.specs.declared.reading.Pair.{Pair}
-use Rattle.s2.specs.Rect.{NORTH, SOUTH, latitude, validPoint, grown}
+use Rattle.s2.specs.Zone.{NORTH, SOUTH, latitude, isLatLng, add}
 use Rattle.s2.specs.Reading.{plainPoint, readPoint}
 use Rattle.s2.specs.Places.{Valid, ValidPoint}
 use Rattle.s2.proofs.Readings.{poles, point-in}
 use Rattle.s2.proofs.Latitudes.{Range}
 use Rattle.s2.proofs.Circles.{seam-plain}
 use Rattle.s2.proofs.Valid.{range, empty-both}
-use Rattle.growth.specs.Growth.{pointsOf, pointAt, grownFrom}
-use Rattle.growth.specs.Points.{DoublePoint}
-use Rattle.growth.specs.Held.{isOn, isHeld}
+use Rattle.lists.specs.Points.{pointsOf, pointAt}
+use Rattle.lists.proofs.Doubles.{DoublePoint}
+use Rattle.growth.specs.Growth.{grownFrom}
+use Rattle.growth.specs.Devices.{isOn, isHeld}
 use Rattle.growth.proofs.Turns.{grow-turn}
 
 -- ---- the latitudes
@@ -60,12 +61,12 @@ module _ (i : Line) (x : Float) (a : Range i) (f : fits binary64 x ≡ true) (h 
       and-of (le-trans SOUTH (i .lo) x s low-num lat-num (and-l (le SOUTH (i .lo)) (le (i .lo) NORTH) (a .south .in-range)) h)
       (le-trans x (i .hi) NORTH lat-num high-num n k (a .north .in-range))
 
-  lat-filled : line.empty i ≡ false
-  unfolding line.empty
+  lat-filled : line.isEmpty i ≡ false
+  unfolding line.isEmpty
   lat-filled = le-no (i .lo) (i .hi) low-num high-num (le-trans (i .lo) x (i .hi) low-num lat-num high-num h k)
 
-  lat-stays : line.grown i (plain x) ≡ i
-  unfolding line.grown
+  lat-stays : line.add i (plain x) ≡ i
+  unfolding line.add
   lat-stays =
       simp (
         lat-filled,
@@ -120,10 +121,10 @@ module _ (i : Circle) (x : Float) (v : LngValid i) (f : fits binary64 x ≡ true
       }
 
   -- EMPTY passes the test at PI and at -PI: that the arc is not EMPTY follows from the latitudes, below
-  module _ (e : circle.empty i ≡ false) where
+  module _ (e : circle.isEmpty i ≡ false) where
     -- an arc over the seam holds what lies from lo on or up to hi
     over : (y : Float) → le (i .lo) (i .hi) ≡ false → le (i .lo) y || le y (i .hi) ≡ true → lngHolds i y false ≡ true
-    unfolding circle.empty
+    unfolding circle.isEmpty
     over y d k = simp (not-le (i .lo) (i .hi) (lo-num v) (hi-num v) d, e, k)
 
     between : (y : Float) → le (i .lo) (i .hi) ≡ true → le (i .lo) y ≡ true → le y (i .hi) ≡ true → lngHolds i y false ≡ true
@@ -131,7 +132,7 @@ module _ (i : Circle) (x : Float) (v : LngValid i) (f : fits binary64 x ≡ true
 
     -- where -PI is on the arc, so is PI: an arc that rises from -PI is FULL
     full-east : eq x NEG-PI ≡ true → le (i .lo) x ≡ true → le PI (i .hi) ≡ true
-    unfolding circle.valid
+    unfolding circle.isValid
     full-east s a =
         let n = lng-num in
         let l = lo-num v in
@@ -166,8 +167,8 @@ module _ (i : Circle) (x : Float) (v : LngValid i) (f : fits binary64 x ≡ true
         go true s = at-seam s
         go false s = elsewhere
 
-    lng-stays : circle.grown i (plain x) ≡ i
-    unfolding circle.grown circle.fast
+    lng-stays : circle.add i (plain x) ≡ i
+    unfolding circle.add circle.fastContains circle.isEmpty
     lng-stays = simp (seam-plain v lng-on ∙ lng-held)
 
 -- ---- the rectangle
@@ -185,7 +186,7 @@ module _ (q : Rect) (p : LatLng) (v : Valid q) (d : DoublePoint p) (h : isHeld q
   on-arc = and-r (le (q .lat .lo) (p .lat) && le (p .lat) (q .lat .hi)) _ h
 
   pub held-valid : ValidPoint p
-  unfolding validPoint
+  unfolding isLatLng
   held-valid =
       record {
         lat-double = d .lat-double;
@@ -198,8 +199,8 @@ module _ (q : Rect) (p : LatLng) (v : Valid q) (d : DoublePoint p) (h : isHeld q
   pub held-accepted : readPoint p .refusal ≡ number accepted
   held-accepted = ap (λ (x : Pair). x .refusal) (point-in p held-valid)
 
-  pub held-stays : grown q (plainPoint p) ≡ q
-  unfolding grown
+  pub held-stays : add q (plainPoint p) ≡ q
+  unfolding add
   held-stays =
       let filled = sym (empty-both v) ∙ lat-filled (q .lat) (p .lat) (range v) (d .lat-double) from-south to-north in
       let lat = lat-stays (q .lat) (p .lat) (range v) (d .lat-double) from-south to-north in

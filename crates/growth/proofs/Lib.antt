@@ -3,3 +3,4 @@ pub mod Held
 pub mod Boxes
 pub mod Laws
 pub mod Examples
+pub mod Promises

@@ -1,40 +1,27 @@
 -- A turn of each loop, on plain lists: one point more is read, and what was done so far with what the rest comes to is the whole. Assumes nothing.
 use mathlib.Core.Path.{_≡_, refl, sym, ap, _∙_}
 use mathlib.Core.Bool.{Bool, true, false, not}
-use mathlib.Core.List.{List, [], _∷_}
-use Prim.Native.Nat.{ℕ, suc, _+_, _%_, _<_}
-use native.Mathlib.Numerals.{add-one}
-use native.Mathlib.Omega.{arith}
+use mathlib.Core.List.{List}
+use Prim.Native.Nat.{ℕ, _+_, _<_}
 use lib.ListN.{length, drop}
-use lib.Seq.{drop-cons, drop-length}
-use borrow.Author.Tests.{eqb-true, eq-eqb, ne-eqb}
-use lib.Ieee.{Float, nan}
-use Rattle.order.proofs.Ranks.{and-l}
+use borrow.Author.Tests.{eq-eqb, ne-eqb}
+use lib.Ieee.{Float}
 use Rattle.consts.specs.Refusal.{firstRefusal, given}
 use Rattle.s2.specs.declared.latlng.LatLng.{LatLng}
 use Rattle.s2.specs.declared.rect.Rect.{Rect}
 use Rattle.s2.specs.declared.rect.Answer.{Answer}
 use Rattle.s2.specs.declared.reading.One.{One}
 use Rattle.s2.specs.declared.reading.Pair.{Pair}
-use Rattle.s2.specs.Rect.{grown}
+use Rattle.s2.specs.Zone.{add}
 use Rattle.s2.specs.Reading.{readOne, readPoint}
 use Rattle.s2.specs.Answers.{rectAnswer, emptyUnder}
-use Rattle.growth.specs.Scan.{enlarged, scannedFrom, handedBack, scannedByPoints, scanned}
-use Rattle.growth.specs.Growth.{pointsOf, pointAt, wholePoints, under, firstBad, grownAll, grownFrom, grownByPoints, grownBy}
+use Rattle.lists.specs.Lists.{whole}
+use Rattle.lists.specs.Points.{pointsOf, pointAt}
+use Rattle.lists.specs.Refused.{firstNumber, firstBad}
+use Rattle.lists.proofs.PointLists.{two, none-left}
+use Rattle.growth.specs.Scan.{enlarge, scannedFrom, handedBack, scannedByPoints, scan}
+use Rattle.growth.specs.Growth.{under, grownAll, grownFrom, grownByPoints, grow}
 
--- ---- the list of numbers: one point more, or none
-pub two : (l : List Float) (i : ℕ) → i + 1 < length l → pointsOf (drop i l) ≡ pointAt l i ∷ pointsOf (drop (i + 2) l)
-unfolding pointsOf
-two l i h = rw (drop-cons l i nan (omega arith), drop-cons l (suc i) nan (omega arith)) (rw (add-one i, more i) refl)
-  where
-    more : (k : ℕ) → k + 2 ≡ suc (suc k)
-    more k = omega arith
-
-pub none-left : (l : List Float) → pointsOf (drop (length l) l) ≡ []
-unfolding pointsOf
-none-left l = rw (drop-length l) refl
-
--- ---- whole points, or not
 -- the way that a test took
 pub taken : {b : Bool} → not b ≡ true → b ≡ false
 taken {b = true} h = sym h
@@ -44,23 +31,18 @@ pub passed : {b : Bool} → not b ≡ false → b ≡ true
 passed {b = true} h = refl
 passed {b = false} h = sym h
 
--- the length of whole points is even
-pub whole-even : (l : List Float) → wholePoints l ≡ true → length l % 2 ≡ 0
-unfolding wholePoints
-whole-even l w = eqb-true (length l % 2) 0 (and-l _ _ w)
-
 -- ---- growth: the start's refusal, then a turn, then the end
-module _ (r : Rect) (l : List Float) (w : wholePoints l ≡ true) (x : One) (e : x ≡ readOne r) where
+module _ (r : Rect) (l : List Float) (w : whole 2 4096 l ≡ true) (x : One) (e : x ≡ readOne r) where
   -- the answer by what reading the start gave
   abbrev by-start : One → Answer
   by-start y = given (y .refusal) (grownFrom r (y .value) (pointsOf l)) (emptyUnder (y .refusal))
 
-  pub start-refused : (x .refusal ≡ 0 → ⊥) → grownBy r l ≡ emptyUnder (x .refusal)
-  unfolding grownBy grownByPoints readOne
+  pub start-refused : (x .refusal ≡ 0 → ⊥) → grow r l ≡ emptyUnder (x .refusal)
+  unfolding grow grownByPoints readOne
   start-refused k = rw w (ap by-start (sym e) ∙ rw (ne-eqb (x .refusal) 0 k) refl)
 
-  pub start-read : x .refusal ≡ 0 → grownBy r l ≡ grownFrom r (x .value) (pointsOf l)
-  unfolding grownBy grownByPoints readOne
+  pub start-read : x .refusal ≡ 0 → grow r l ≡ grownFrom r (x .value) (pointsOf l)
+  unfolding grow grownByPoints readOne
   start-read k = rw w (ap by-start (sym e) ∙ rw (eq-eqb (x .refusal) 0 k) refl)
 
 module _ (r q : Rect) (l : List Float) (i : ℕ) (h : i + 1 < length l) (p : Pair) (e : p ≡ readPoint (pointAt l i)) where
@@ -69,47 +51,47 @@ module _ (r q : Rect) (l : List Float) (i : ℕ) (h : i + 1 < length l) (p : Pai
 
   -- the answer by what reading the point gave
   abbrev by-point : Pair → Answer
-  by-point y = let n = firstRefusal (y .refusal) (firstBad rest) in given n (rectAnswer (grownAll (grown q (y .value)) rest)) (under n r)
+  by-point y = let n = firstRefusal (y .refusal) (firstBad rest) in given n (rectAnswer (grownAll (add q (y .value)) rest)) (under n r)
 
-  pub grow-turn : p .refusal ≡ 0 → grownFrom r q (pointsOf (drop i l)) ≡ grownFrom r (grown q (p .value)) (pointsOf (drop (i + 2) l))
-  unfolding grownFrom firstBad firstRefusal grownAll readPoint
+  pub grow-turn : p .refusal ≡ 0 → grownFrom r q (pointsOf (drop i l)) ≡ grownFrom r (add q (p .value)) (pointsOf (drop (i + 2) l))
+  unfolding grownFrom firstNumber firstRefusal grownAll readPoint
   grow-turn k = ap (λ (ps : List LatLng). grownFrom r q ps) (two l i h) ∙ ap by-point (sym e) ∙ rw (eq-eqb (p .refusal) 0 k) refl
 
   pub bad-here : (p .refusal ≡ 0 → ⊥) → grownFrom r q (pointsOf (drop i l)) ≡ under (p .refusal) r
-  unfolding grownFrom firstBad firstRefusal grownAll readPoint
+  unfolding grownFrom firstNumber firstRefusal grownAll readPoint
   bad-here k = ap (λ (ps : List LatLng). grownFrom r q ps) (two l i h) ∙ ap by-point (sym e) ∙ simp (ne-eqb (p .refusal) 0 k)
 
 pub grow-end : (r q : Rect) (l : List Float) → grownFrom r q (pointsOf (drop (length l) l)) ≡ rectAnswer q
-unfolding grownFrom firstBad grownAll
+unfolding grownFrom firstNumber grownAll
 grow-end r q l = rw (none-left l) refl
 
 -- ---- the scan: the start's refusal and what is answered of the box, then a turn, then the end
-module _ (b : Rect) (l : List Float) (w : wholePoints l ≡ true) (x : One) (e : x ≡ readOne b) where
+module _ (b : Rect) (l : List Float) (w : whole 2 4096 l ≡ true) (x : One) (e : x ≡ readOne b) where
   abbrev scan-by-start : One → Answer
   scan-by-start y = given (y .refusal) (handedBack (scannedFrom 0 b (pointsOf l))) (emptyUnder (y .refusal))
 
-  pub scan-start-refused : (x .refusal ≡ 0 → ⊥) → scanned b l ≡ emptyUnder (x .refusal)
-  unfolding scanned scannedByPoints
+  pub scan-start-refused : (x .refusal ≡ 0 → ⊥) → scan b l ≡ emptyUnder (x .refusal)
+  unfolding scan scannedByPoints
   scan-start-refused k = rw w (ap scan-by-start (sym e) ∙ rw (ne-eqb (x .refusal) 0 k) refl)
 
-  scan-start-read : x .refusal ≡ 0 → scanned b l ≡ handedBack (scannedFrom 0 b (pointsOf l))
-  unfolding scanned scannedByPoints
+  scan-start-read : x .refusal ≡ 0 → scan b l ≡ handedBack (scannedFrom 0 b (pointsOf l))
+  unfolding scan scannedByPoints
   scan-start-read k = rw w (ap scan-by-start (sym e) ∙ rw (eq-eqb (x .refusal) 0 k) refl)
 
   -- the running box after all points, and the last refusal
   module _ (k : x .refusal ≡ 0) (a : Answer) (f : a ≡ scannedFrom 0 b (pointsOf l)) where
-    handed : scanned b l ≡ handedBack a
+    handed : scan b l ≡ handedBack a
     handed = scan-start-read k ∙ ap handedBack (sym f)
 
-    pub scan-left : (a .refusal ≡ 0 → ⊥) → scanned b l ≡ a
+    pub scan-left : (a .refusal ≡ 0 → ⊥) → scan b l ≡ a
     unfolding handedBack
     scan-left n = handed ∙ simp (ne-eqb (a .refusal) 0 n)
 
-    pub scan-written : a .refusal ≡ 0 → (y : One) → y ≡ readOne (a .value) → scanned b l ≡ rectAnswer (y .value)
+    pub scan-written : a .refusal ≡ 0 → (y : One) → y ≡ readOne (a .value) → scan b l ≡ rectAnswer (y .value)
     unfolding handedBack readOne
     scan-written n y g = handed ∙ rw (eq-eqb (a .refusal) 0 n) (ap (λ (z : One). rectAnswer (z .value)) (sym g))
 
-pub scan-turn : (n : ℕ) (b : Rect) (l : List Float) (i : ℕ) → i + 1 < length l → (m : ℕ) (a : Answer) → a ≡ enlarged b (pointAt l i) → m ≡ firstRefusal (a .refusal) n
+pub scan-turn : (n : ℕ) (b : Rect) (l : List Float) (i : ℕ) → i + 1 < length l → (m : ℕ) (a : Answer) → a ≡ enlarge b (pointAt l i) → m ≡ firstRefusal (a .refusal) n
     → scannedFrom n b (pointsOf (drop i l)) ≡ scannedFrom m (a .value) (pointsOf (drop (i + 2) l))
 unfolding scannedFrom
 scan-turn n b l i h m a e k =

@@ -1,4 +1,3 @@
 pub mod Growth
 pub mod Scan
-pub mod Points
-pub mod Held
+pub mod Devices

@@ -10,25 +10,27 @@ use Rattle.s2.specs.declared.rect.Rect.{Rect}
 use Rattle.s2.specs.declared.rect.Answer.{Answer}
 use Rattle.s2.specs.Reading.{asRead, readOne}
 use Rattle.s2.specs.Answers.{rectAnswer, emptyUnder, add}
-use Rattle.growth.specs.Growth.{pointsOf, wholePoints, under, grownBy}
+use Rattle.lists.specs.Lists.{whole}
+use Rattle.lists.specs.Points.{pointsOf}
+use Rattle.growth.specs.Growth.{under, grow}
 
 -- the box b after growth answered a
 abbrev pub kept : Rect → Answer → Rect
 kept b a = given (a .refusal) (a .value) b
 
 -- the worker's number and the box after a point
-unfoldable pub enlarged : Rect → LatLng → Answer
-enlarged b p = under (add b p .refusal) (kept b (add b p))
+unfoldable pub enlarge : Rect → LatLng → Answer
+enlarge b p = under (add b p .refusal) (kept b (add b p))
 
 -- and after a list
-unfoldable pub enlargedAll : Rect → List Float → Answer
-enlargedAll b l = under (grownBy b l .refusal) (kept b (grownBy b l))
+unfoldable pub enlargeAll : Rect → List Float → Answer
+enlargeAll b l = under (grow b l .refusal) (kept b (grow b l))
 
 -- ---- the points one by one through the worker
 -- n is the last refusal that is not 0, so far
 unfoldable pub scannedFrom : ℕ → Rect → List LatLng → Answer
 scannedFrom n b [] = under n b
-scannedFrom n b (p ∷ l) = scannedFrom (firstRefusal (enlarged b p .refusal) n) (enlarged b p .value) l
+scannedFrom n b (p ∷ l) = scannedFrom (firstRefusal (enlarge b p .refusal) n) (enlarge b p .value) l
 
 -- what is answered of the running box: under 0 it has its zeros read, under 3 it is handed back as it is
 unfoldable pub handedBack : Answer → Answer
@@ -39,5 +41,5 @@ unfoldable pub scannedByPoints : Rect → List LatLng → Answer
 scannedByPoints b ps = given (readOne b .refusal) (handedBack (scannedFrom (number accepted) b ps)) (emptyUnder (readOne b .refusal))
 
 -- the whole answer: before all else a list that growth would refuse with 5 is refused with 5, and the start comes back as it came
-unfoldable pub scanned : Rect → List Float → Answer
-scanned b l = cond (wholePoints l) (scannedByPoints b (pointsOf l)) (under (number badList) b)
+unfoldable pub scan : Rect → List Float → Answer
+scan b l = cond (whole 2 4096 l) (scannedByPoints b (pointsOf l)) (under (number badList) b)

@@ -4,48 +4,18 @@ use consts::ACCEPTED;
 use consts::BAD_LIST;
 use consts::NEG_PI;
 use consts::PI;
+use lists::read_point_at;
+use lists::whole;
 use s1::interval::Interval as Circle;
-use s2::latlng::LatLng;
-use s2::reading::Pair;
 use s2::reading::read_one;
-use s2::reading::read_point;
 use s2::rect::Answer;
 use s2::rect::Rect;
-use s2::sphere;
+use s2::zone;
 ghost use mathlib.Core.Path.{_≡_};
-ghost use Prim.Native.Nat.{_+_, _<_, _≤_, _%_};
-ghost use lib.ListN.{length};
-ghost use Rattle.s2.specs.Places.{Valid};
-ghost use Rattle.s2.specs.Rect.{at};
-ghost use Rattle.s2.specs.Reading.{readPoint};
-ghost use Rattle.growth.specs.Growth.{pointsOf, pointAt, wholePoints, under, grownFrom, grownBy};
-ghost use Rattle.growth.specs.Held.{isOn, isHeld, HeldUntil};
-
-// A number and the rectangle beside it.
-pub(crate) fn answer(refusal: u8, value: Rect) -> Answer
-    ensures { λ a. ⌜ a ≡ under refusal value ⌝ }
-{
-    Answer { refusal, value }
-}
-
-// Whether a list is of whole points, and of at most 4,096.
-pub(crate) fn whole_points(points: &[f64]) -> bool
-    ensures { λ b. ⌜ b ≡ wholePoints (now (points .entry)) ⌝ }
-{
-    let n = points.len();
-    (n % 2 == 0) & (n <= 8192)
-}
-
-// The point that starts at the number i, as it is read.
-fn read_at(points: &[f64], i: usize) -> Pair
-    requires { ⌜ i + 1 < length (now points) ⌝ }
-    ensures { λ p. ⌜ p ≡ readPoint (pointAt (now (points .entry)) i) ⌝ }
-{
-    read_point(LatLng {
-        lat: points[i],
-        lng: points[i + 1],
-    })
-}
+ghost use Rattle.s2.specs.Zone.{at};
+ghost use Rattle.lists.specs.Points.{pointsOf};
+ghost use Rattle.growth.specs.Growth.{grownFrom, grow};
+ghost use Rattle.growth.specs.Devices.{isOn, isHeld, Growing, HeldUntil};
 
 // Whether the arc, which is not EMPTY, holds the longitude; the longitude is then of size at most PI.
 fn is_on(i: Circle, p: f64) -> bool
@@ -70,7 +40,7 @@ fn is_held(q: Rect, lat: f64, lng: f64) -> bool
 // The first point from the number first on that the rectangle does not hold already; most points of a track
 // are held.
 fn held_until(points: &[f64], first: usize, q: Rect) -> usize
-    requires { ⌜ (first ≤ length (now points)) × (first % 2 ≡ 0) × (length (now points) % 2 ≡ 0) × Valid q ⌝ }
+    requires { ⌜ Growing (now points) first q ⌝ }
     ensures { λ r. ⌜ HeldUntil (now (points .entry)) first q r ⌝ }
 {
     let n = points.len();
@@ -85,10 +55,10 @@ fn held_until(points: &[f64], first: usize, q: Rect) -> usize
 }
 
 // A start that has been read, grown by whole points, from the first to the last. The first bad one refuses
-// them all, and hands back r.
-fn grow_points(r: Rect, start: Rect, points: &[f64]) -> Answer
-    requires { ⌜ (length (now points) % 2 ≡ 0) × Valid start ⌝ }
-    ensures { λ a. ⌜ a ≡ grownFrom r start (pointsOf (now (points .entry))) ⌝ }
+// them all, and hands back what was handed in.
+fn grow_points(handed: Rect, start: Rect, points: &[f64]) -> Answer
+    requires { ⌜ Growing (now points) 0 start ⌝ }
+    ensures { λ a. ⌜ a ≡ grownFrom handed start (pointsOf (now (points .entry))) ⌝ }
 {
     let n = points.len();
     let mut q = start;
@@ -96,27 +66,44 @@ fn grow_points(r: Rect, start: Rect, points: &[f64]) -> Answer
     while i < n {
         i = held_until(points, i, q);
         if i < n {
-            let p = read_at(points, i);
+            let p = read_point_at(points, i);
             if p.refusal != ACCEPTED {
-                return answer(p.refusal, r);
+                return Answer {
+                    refusal: p.refusal,
+                    value: handed,
+                };
             }
-            q = sphere::add(q, p.value);
+            q = zone::add(q, p.value);
             i += 2;
         }
     }
-    answer(ACCEPTED, q)
+    Answer {
+        refusal: ACCEPTED,
+        value: q,
+    }
 }
 
-// The rectangle grown by all the points of the list.
+// The rectangle grown by all the points of the list, of which there are at most 4,096.
+// Laws: Laws.one-by-one, Laws.one-by-one-accepted, Laws.accepted-exactly, Laws.growth-holds,
+// Laws.list-refused, Laws.start-out-of-reach, Laws.start-not-valid, Laws.bad-point.
+// Ruled out: of [0, 1] by [0, 1] and the points 0.5, 2 and 1, -0.5: [0, 1] by [0, 2], grown by the
+// first alone; of the same start and the points 0.5, 2 and 1, 4: [0, 1] by [0, 2] under 3 (the
+// start comes back).
 pub fn grow(r: Rect, points: &[f64]) -> Answer
-    ensures { λ a. ⌜ a ≡ grownBy r (now (points .entry)) ⌝ }
+    ensures { λ a. ⌜ a ≡ grow r (now (points .entry)) ⌝ }
 {
-    if !whole_points(points) {
-        return answer(BAD_LIST, r);
+    if !whole(points.len(), 2, 4096) {
+        return Answer {
+            refusal: BAD_LIST,
+            value: r,
+        };
     }
     let start = read_one(r);
     if start.refusal != ACCEPTED {
-        return answer(start.refusal, Rect::EMPTY);
+        return Answer {
+            refusal: start.refusal,
+            value: Rect::EMPTY,
+        };
     }
     grow_points(r, start.value, points)
 }

@@ -10,6 +10,8 @@ pub struct Input {
 }
 
 // Reads until the buffer is full, the input ends or a read fails, however few bytes each read brings.
+// Laws: it is what its callers need to lend on the bytes that were read.
+// Ruled out: of a buffer of two bytes: 3; of an empty buffer: 1.
 pub fn read_all(bytes: &mut [u8]) -> Input
     ensures { λ r. ⌜ Counts (r .count) (now (bytes .exit)) ⌝ }
 {

@@ -9,8 +9,8 @@ use borrow.Author.Tests.{ltb-true, ltb-false, leb-true, le-leb}
 use lib.Dec.{ltb, leb}
 use lib.Ieee.{Float, binary64, ofBits, lt, le, neg, fits, isNan}
 use Rattle.order.specs.Key.{K, Num, big, isZero}
-use Rattle.order.specs.Rank.{In, here, there, rank, all}
-use Rattle.order.specs.Choice.{smaller, larger, size}
+use Rattle.order.proofs.Rank.{In, here, there, rank, all}
+use Rattle.order.specs.Choice.{min, max, abs}
 use Rattle.order.proofs.Keys.{lt-key, le-key, zero-key, key-top, neg-key, neg-num}
 use Rattle.order.proofs.Ranks.{lt-rank, le-rank, rank-lt, all-at, and-l, and-r, and-of}
 
@@ -68,20 +68,20 @@ module _ (a b x : Float) (na : Num a ≡ true) (nb : Num b ≡ true) (nx : Num x
   unfolding trial
   at C t = all-at 3 _ (all-at 3 _ (all-at 3 _ t (rank l a) (rank-lt in-a)) (rank l b) (rank-lt in-b)) (rank l x) (rank-lt in-x)
 
-  pub smaller-le : le (smaller a b) x ≡ le a x || le b x
-  unfolding smaller
+  pub smaller-le : le (min a b) x ≡ le a x || le b x
+  unfolding min
   smaller-le = cond-of (λ y. le y x) (lt b a) b a ∙ beq-eq _ _ (simp ranks (at _ smaller-le-all))
 
-  pub le-smaller : le x (smaller a b) ≡ le x a && le x b
-  unfolding smaller
+  pub le-smaller : le x (min a b) ≡ le x a && le x b
+  unfolding min
   le-smaller = cond-of (λ y. le x y) (lt b a) b a ∙ beq-eq _ _ (simp ranks (at _ le-smaller-all))
 
-  pub larger-le : le (larger a b) x ≡ le a x && le b x
-  unfolding larger
+  pub larger-le : le (max a b) x ≡ le a x && le b x
+  unfolding max
   larger-le = cond-of (λ y. le y x) (lt a b) b a ∙ beq-eq _ _ (simp ranks (at _ larger-le-all))
 
-  pub le-larger : le x (larger a b) ≡ le x a || le x b
-  unfolding larger
+  pub le-larger : le x (max a b) ≡ le x a || le x b
+  unfolding max
   le-larger = cond-of (λ y. le x y) (lt a b) b a ∙ beq-eq _ _ (simp ranks (at _ le-larger-all))
 
 -- ---- a number's size
@@ -132,8 +132,8 @@ module _ (x e : Float) (nx : Num x ≡ true) (ne : Num e ≡ true) where
   right : leb (2 * B - K e) (K x) && leb (K x) (K e) ≡ le (neg e) x && le x e
   right = sym (ap (λ (t : Bool). t && le x e) (mirrored e x ne nx) ∙ ap (λ (t : Bool). leb (2 * B - K e) (K x) && t) (le-key binary64 x e nx ne))
 
-  pub size-le : le (size x) e ≡ le (neg e) x && le x e
-  unfolding size
+  pub size-le : le (abs x) e ≡ le (neg e) x && le x e
+  unfolding abs
   size-le = go (lt x ZERO) refl
     where
       go : (t : Bool) → lt x ZERO ≡ t → le (cond t (neg x) x) e ≡ le (neg e) x && le x e

@@ -1,4 +1,5 @@
 pub mod Keys
+pub mod Rank
 pub mod Ranks
 pub mod Units
 pub mod Rounding

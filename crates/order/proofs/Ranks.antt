@@ -12,7 +12,7 @@ use lib.Dec.{leb, ltb, eqb}
 use lib.Ieee.{Float, binary64, lt, le, eq, ne}
 use borrow.Author.Tests.{ltb-true, ltb-false, leb-true, leb-false, eqb-true, eqb-false, lt-ltb, le-ltb, le-leb, lt-leb, eq-eqb, ne-eqb}
 use Rattle.order.specs.Key.{K, Num}
-use Rattle.order.specs.Rank.{In, here, there, Nums, one-if, count, rank, all, both, imp, every, some, Found}
+use Rattle.order.proofs.Rank.{In, here, there, Nums, one-if, count, rank, all, both, imp, every, some, Found}
 use Rattle.order.proofs.Keys.{lt-key, le-key, eq-key}
 
 pub in-num : {l : List Float} {x : Float} → In l x → Num x ≡ true

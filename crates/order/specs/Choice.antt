@@ -3,11 +3,11 @@
 use mathlib.Core.Bool.{cond}
 use lib.Ieee.{Float, binary64, ofBits, lt, neg}
 
-unfoldable pub smaller : Float → Float → Float
-smaller a b = cond (lt b a) b a
+unfoldable pub min : Float → Float → Float
+min a b = cond (lt b a) b a
 
-unfoldable pub larger : Float → Float → Float
-larger a b = cond (lt a b) b a
+unfoldable pub max : Float → Float → Float
+max a b = cond (lt a b) b a
 
-unfoldable pub size : Float → Float
-size x = cond (lt x (ofBits binary64 0)) (neg x) x
+unfoldable pub abs : Float → Float
+abs x = cond (lt x (ofBits binary64 0)) (neg x) x

@@ -11,8 +11,10 @@ use Rattle.r1.specs.declared.interval.Hausdorff.{Hausdorff}
 use Rattle.r1.specs.declared.interval.Distance.{Distance}
 use Rattle.r1.specs.declared.interval.Distance.the-variants.{Of, Unbounded}
 use Rattle.r1.specs.Reading.{readTwo}
-use Rattle.r1.specs.Line.{empty, farthest, distanceOf, hausdorff}
-use Rattle.r1.specs.Answers.{directedHausdorff, hausdorffNumber, IsHausdorff}
+use Rattle.r1.specs.Line as line
+use Rattle.r1.specs.Line.{isEmpty, farthest, distanceOf}
+use Rattle.r1.specs.Answers as answers
+use Rattle.r1.specs.Answers.{hausdorffNumber, IsHausdorff}
 
 by-cases : (s t : Bool) (d : Float) → distanceOf (cond s (Of ZERO) (cond t Unbounded (Of d))) ≡ cond s ZERO (cond t (inf false) d)
 unfolding distanceOf
@@ -20,9 +22,9 @@ by-cases true t d = refl
 by-cases false true d = refl
 by-cases false false d = refl
 
-pub distance-is : (i o : Interval) → distanceOf (hausdorff i o) ≡ farthest i o
-unfolding hausdorff farthest
-distance-is i o = by-cases (empty i) (empty o) _
+pub distance-is : (i o : Interval) → distanceOf (line.directedHausdorffDistance i o) ≡ farthest i o
+unfolding line.directedHausdorffDistance farthest
+distance-is i o = by-cases (isEmpty i) (isEmpty o) _
 
 number-is : (n : ℕ) (d : Distance) (x : Float) → distanceOf d ≡ x
     → hausdorffNumber (cond (eqb n 0) (record { refusal = 0; value = d }) (record { refusal = n; value = Of ZERO })) ≡ told n x
@@ -33,8 +35,8 @@ number-is n d x h = go (eqb n 0)
     go false = unfold distanceOf in refl
 
 -- the answer that is this definition's means what the crate's number does
-pub hausdorff-is : (i o : Interval) (a : Hausdorff) → a ≡ directedHausdorff i o → IsHausdorff i o a
-unfolding directedHausdorff
+pub hausdorff-is : (i o : Interval) (a : Hausdorff) → a ≡ answers.directedHausdorffDistance i o → IsHausdorff i o a
+unfolding answers.directedHausdorffDistance
 hausdorff-is i o a h =
     record {
       answer = h;

@@ -4,3 +4,5 @@ pub mod Ends
 pub mod Trials
 pub mod Places
 pub mod Distances
+pub mod Refusals
+pub mod Promises

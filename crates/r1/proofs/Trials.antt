@@ -7,23 +7,31 @@ use mathlib.Core.Logic.{⊎-elim}
 use Prim.Native.Nat.{ℕ}
 use lib.Dec.{ltb, leb, eqb}
 use lib.Ieee.{Float, lt, le, eq}
-use Rattle.order.specs.Choice.{smaller}
+use Rattle.order.specs.Choice.{min}
 use Rattle.order.specs.Key.{Num}
-use Rattle.order.specs.Rank.{In, here, there, rank, all, imp}
+use Rattle.order.proofs.Rank.{In, here, there, rank, all, imp}
 use Rattle.order.proofs.Ranks.{rank-lt, lt-rank, le-rank, eq-rank, all-at, imp-at, imp-of, and-l, and-r, and-of, or-at}
 use Rattle.order.proofs.Choices.{cond-of, smaller-le, le-smaller, larger-le, le-larger}
 use Rattle.r1.specs.declared.interval.Interval.{Interval}
-use Rattle.r1.specs.Line.{emptyG, holdsG, containsG, meetsG, ends, empty, holds, strictlyHolds, covers, strictlyCovers, meets, strictlyMeets, overlap, clamped, hull, pair, grown, same}
-use Rattle.r1.specs.Places.{Place, InReach, Inside, StrictlyInside, Meets, onTheWay}
+use Rattle.r1.specs.Line as line
+use Rattle.r1.specs.Line.{ends, isEmpty, interiorContains, containsInterval, interiorContainsInterval, intersects, interiorIntersects, intersection, clampPoint, union, fromPointPair, add}
+use Rattle.r1.specs.Places.{Place, InReach, holds, Inside, StrictlyInside, Meets, onTheWay}
 use Rattle.r1.proofs.Readings.{place-num}
 use Rattle.r1.proofs.Ends.{smaller-is}
 
--- ---- trial of every order of the ends a, b and c, d and a place p: where C holds, G holds
-abbrev Five : Type 0
-Five = ℕ → ℕ → ℕ → ℕ → ℕ → Bool
+-- over any comparisons `lt` and `le`: the interval from a to b, and the one from c to d; at doubles these are the definitions
+module _ {A : Type 0} (lt le : A → A → Bool) where
+  abbrev emptyG : A → A → Bool
+  emptyG a b = lt b a
 
-trial : Five → Five → Bool
-trial C G = all 5 (λ a. all 5 (λ b. all 5 (λ c. all 5 (λ d. all 5 (λ p. imp (C a b c d p) (G a b c d p))))))
+  abbrev holdsG : A → A → A → Bool
+  holdsG a b p = le a p && le p b
+
+  abbrev containsG : A → A → A → A → Bool
+  containsG a b c d = emptyG c d || (le a c && le d b)
+
+  abbrev meetsG : A → A → A → A → Bool
+  meetsG a b c d = cond (le a c) (le c b && le c d) (le a d && le a b)
 
 abbrev emptyN : ℕ → ℕ → Bool
 emptyN = emptyG ltb leb
@@ -52,47 +60,75 @@ module _ {A : Type 0} (lt le : A → A → Bool) where
   abbrev sharedG : A → A → A → A → A → Bool
   sharedG a b c d w = holdsG lt le a b w && holdsG lt le c d w
 
-inside-all : trial (λ a b c d p. containsN a b c d) (λ a b c d p. imp (holdsN c d p) (holdsN a b p)) ≡ true
-unfolding trial all imp
+-- ---- trials: five numbers have ranks below 5, and each law is tried at all of them, with as few numbers as it speaks of
+abbrev Three : Type 0
+Three = ℕ → ℕ → ℕ → Bool
+
+abbrev Four : Type 0
+Four = ℕ → ℕ → ℕ → ℕ → Bool
+
+abbrev Five : Type 0
+Five = ℕ → ℕ → ℕ → ℕ → ℕ → Bool
+
+-- where C holds, G holds
+three : Three → Three → Bool
+three C G = all 5 (λ x. all 5 (λ y. all 5 (λ z. imp (C x y z) (G x y z))))
+
+four : Four → Four → Bool
+four C G = all 5 (λ w. all 5 (λ x. all 5 (λ y. all 5 (λ z. imp (C w x y z) (G w x y z)))))
+
+-- where c to d holds p, G holds: first c, d and p, of which few pass
+held : Five → Bool
+held G = all 5 (λ c. all 5 (λ d. all 5 (λ p. imp (holdsN c d p) (all 5 (λ a. all 5 (λ b. G a b c d p))))))
+
+inside-all : held (λ a b c d p. imp (containsN a b c d) (holdsN a b p)) ≡ true
+unfolding held all imp
 inside-all = refl
 
-covers-all : trial (λ a b c d p. passG ltb leb a b c d c && passG ltb leb a b c d d) (λ a b c d p. containsN a b c d) ≡ true
-unfolding trial all imp
-covers-all = refl
+contains-all : four (λ a b c d. passG ltb leb a b c d c && passG ltb leb a b c d d) containsN ≡ true
+unfolding four all imp
+contains-all = refl
 
-strictly-all : trial (λ a b c d p. ltb d c || (ltb a c && ltb d b)) (λ a b c d p. imp (holdsN c d p) (strictG ltb leb a b p)) ≡ true
-unfolding trial all imp
+strictly-all : held (λ a b c d p. imp (ltb d c || (ltb a c && ltb d b)) (strictG ltb leb a b p)) ≡ true
+unfolding held all imp
 strictly-all = refl
 
-strict-covers-all : trial (λ a b c d p. strictPassG ltb leb a b c d c && strictPassG ltb leb a b c d d) (λ a b c d p. ltb d c || (ltb a c && ltb d b)) ≡ true
-unfolding trial all imp
-strict-covers-all = refl
+strict-contains-all : four (λ a b c d. strictPassG ltb leb a b c d c && strictPassG ltb leb a b c d d) (λ a b c d. ltb d c || (ltb a c && ltb d b)) ≡ true
+unfolding four all imp
+strict-contains-all = refl
 
-meet-all : trial (λ a b c d p. meetsN a b c d) (λ a b c d p. sharedG ltb leb a b c d a || sharedG ltb leb a b c d c) ≡ true
-unfolding trial all imp
+meet-all : four meetsN (λ a b c d. sharedG ltb leb a b c d a || sharedG ltb leb a b c d c) ≡ true
+unfolding four all imp
 meet-all = refl
 
-apart-all : trial (λ a b c d p. sharedG ltb leb a b c d p) (λ a b c d p. meetsN a b c d) ≡ true
-unfolding trial all imp
+apart-all : held (λ a b c d p. imp (holdsN a b p) (meetsN a b c d)) ≡ true
+unfolding held all imp
 apart-all = refl
 
-strict-meet-all : trial (λ a b c d p. strictG ltb leb a b p && holdsN c d p) (λ a b c d p. ltb c b && ltb a d && ltb a b && leb c d) ≡ true
-unfolding trial all imp
+strict-meet-all : held (λ a b c d p. imp (strictG ltb leb a b p) (ltb c b && ltb a d && ltb a b && leb c d)) ≡ true
+unfolding held all imp
 strict-meet-all = refl
 
-hull-all : trial (λ a b c d p. holdsN a b p || holdsN c d p)
-    (λ a b c d p. cond (emptyN a b) (holdsN c d p) (cond (emptyN c d) (holdsN a b p) ((leb a p || leb c p) && (leb p b || leb p d)))) ≡ true
-unfolding trial all imp
-hull-all = refl
+-- the hull of a to b and c to d: what it holds, by the same choices; either operand may be the one that holds p
+module _ {A : Type 0} (lt le : A → A → Bool) where
+  abbrev hullG : A → A → A → A → A → Bool
+  hullG a b c d p = cond (emptyG lt le a b) (holdsG lt le c d p) (cond (emptyG lt le c d) (holdsG lt le a b p) ((le a p || le c p) && (le p b || le p d)))
 
-same-all : trial (λ a b c d p. (eqb a c && eqb b d) || (ltb b a && ltb d c)) (λ a b c d p. imp (holdsN a b p) (holdsN c d p) && imp (holdsN c d p) (holdsN a b p)) ≡ true
-unfolding trial all imp
+union-left-all : held (λ c d a b p. hullG ltb leb a b c d p) ≡ true
+unfolding held all imp
+union-left-all = refl
+
+union-right-all : held (hullG ltb leb) ≡ true
+unfolding held all imp
+union-right-all = refl
+
+-- the same places: each covers the other
+same-all : four (λ a b c d. (eqb a c && eqb b d) || (ltb b a && ltb d c)) (λ a b c d. containsN a b c d && containsN c d a b) ≡ true
+unfolding four all imp
 same-all = refl
 
-alike-all : trial
-    (λ a b c d p. (passG ltb leb a b c d c && passG ltb leb a b c d d) && (passG ltb leb c d a b a && passG ltb leb c d a b b))
-    (λ a b c d p. (eqb a c && eqb b d) || (ltb b a && ltb d c)) ≡ true
-unfolding trial all imp
+alike-all : four (λ a b c d. containsN a b c d && containsN c d a b) (λ a b c d. (eqb a c && eqb b d) || (ltb b a && ltb d c)) ≡ true
+unfolding four all imp
 alike-all = refl
 
 -- growth of a to b by c: what it holds, by the same choices
@@ -103,16 +139,16 @@ module _ {A : Type 0} (lt le : A → A → Bool) where
   abbrev pairG : A → A → A → Bool
   pairG a b p = cond (le a b) (holdsG lt le a b p) (holdsG lt le b a p)
 
-kept-all : trial (λ a b c d p. holdsN a b p) (λ a b c d p. grownG ltb leb a b c p) ≡ true
-unfolding trial all imp
+kept-all : four (λ a b c p. holdsN a b p) (grownG ltb leb) ≡ true
+unfolding four all imp
 kept-all = refl
 
-taken-all : trial (λ a b c d p. true) (λ a b c d p. grownG ltb leb a b c c) ≡ true
-unfolding trial all imp
+taken-all : three (λ a b c. true) (λ a b c. grownG ltb leb a b c c) ≡ true
+unfolding three all imp
 taken-all = refl
 
-pair-all : trial (λ a b c d p. true) (λ a b c d p. pairG ltb leb a b a && pairG ltb leb a b b) ≡ true
-unfolding trial all imp
+pair-all : three (λ a b p. true) (λ a b p. pairG ltb leb a b a && pairG ltb leb a b b) ≡ true
+unfolding three all imp
 pair-all = refl
 
 -- the number p clamped to a to b: how it compares with y, by the same choices
@@ -131,20 +167,20 @@ module _ {A : Type 0} (lt le : A → A → Bool) where
   abbrev clampG : A → A → A → A → Bool
   clampG a b p x = (clampFromG a b p p && clampToG a b p x) || (clampFromG a b p x && clampToG a b p p)
 
-clamped-all : trial (λ a b c d p. not (emptyN a b)) (λ a b c d p. clampHeldG ltb leb a b p) ≡ true
-unfolding trial all imp
+clamped-all : three (λ a b p. not (emptyN a b)) (clampHeldG ltb leb) ≡ true
+unfolding three all imp
 clamped-all = refl
 
-nearest-all : trial (λ a b c d p. holdsN a b c) (λ a b c d p. clampG ltb leb a b p c) ≡ true
-unfolding trial all imp
+nearest-all : four (λ a b p c. holdsN a b c) (clampG ltb leb) ≡ true
+unfolding four all imp
 nearest-all = refl
 
-nothing-all : trial (λ a b c d p. holdsN a b p) (λ a b c d p. not (emptyN a b)) ≡ true
-unfolding trial all imp
+nothing-all : three holdsN (λ a b p. not (emptyN a b)) ≡ true
+unfolding three all imp
 nothing-all = refl
 
-start-all : trial (λ a b c d p. not (emptyN a b)) (λ a b c d p. holdsN a b a) ≡ true
-unfolding trial all imp
+start-all : three (λ a b p. not (emptyN a b)) (λ a b p. holdsN a b a) ≡ true
+unfolding three all imp
 start-all = refl
 
 regroup : (a b c d : Bool) → (a && b) && (c && d) ≡ (a && c) && (b && d)
@@ -184,40 +220,55 @@ module _ {i o : Interval} {p : Float} (v : InReach i) (w : InReach o) (q : Place
 
   ruleset ranks = (lt-r, le-r, eq-r, in-a, in-b, in-c, in-d, in-p)
 
-  at : (C G : Five) → trial C G ≡ true
-      → C (rank l (i .lo)) (rank l (i .hi)) (rank l (o .lo)) (rank l (o .hi)) (rank l p) ≡ true
-      → G (rank l (i .lo)) (rank l (i .hi)) (rank l (o .lo)) (rank l (o .hi)) (rank l p) ≡ true
-  unfolding trial
-  at C G t h =
-      imp-at _ _ (all-at 5 _ (all-at 5 _ (all-at 5 _ (all-at 5 _ (all-at 5 _ t
-      (rank l (i .lo)) (rank-lt in-a)) (rank l (i .hi)) (rank-lt in-b)) (rank l (o .lo)) (rank-lt in-c)) (rank l (o .hi)) (rank-lt in-d)) (rank l p) (rank-lt in-p)) h
+  -- at entries of the list, whose ranks are tried
+  module _ {x y z : Float} (j : In l x) (k : In l y) (m : In l z) where
+    at3 : (C G : Three) → three C G ≡ true → C (rank l x) (rank l y) (rank l z) ≡ true → G (rank l x) (rank l y) (rank l z) ≡ true
+    unfolding three
+    at3 C G t = imp-at _ _ (all-at 5 _ (all-at 5 _ (all-at 5 _ t (rank l x) (rank-lt j)) (rank l y) (rank-lt k)) (rank l z) (rank-lt m))
 
-  pub covers-fwd : covers i o ≡ true → holds o p ≡ true → holds i p ≡ true
-  unfolding covers empty holds
-  covers-fwd h k = imp-at _ _ (simp ranks (at _ _ inside-all (simp ranks at h))) k
+    at4 : {w : Float} → In l w → (C G : Four) → four C G ≡ true
+        → C (rank l w) (rank l x) (rank l y) (rank l z) ≡ true → G (rank l w) (rank l x) (rank l y) (rank l z) ≡ true
+    unfolding four
+    at4 {w} n C G t =
+        imp-at _ _ (all-at 5 _ (all-at 5 _ (all-at 5 _ (all-at 5 _ t (rank l w) (rank-lt n)) (rank l x) (rank-lt j)) (rank l y) (rank-lt k)) (rank l z) (rank-lt m))
 
-  pub strict-fwd : strictlyCovers i o ≡ true → holds o p ≡ true → strictlyHolds i p ≡ true
-  unfolding strictlyCovers empty holds strictlyHolds
-  strict-fwd h k = imp-at _ _ (simp ranks (at _ _ strictly-all (simp ranks at h))) k
+    -- x to y holds z
+    at5 : {u v : Float} → In l u → In l v → (G : Five) → held G ≡ true
+        → holdsN (rank l x) (rank l y) (rank l z) ≡ true → G (rank l u) (rank l v) (rank l x) (rank l y) (rank l z) ≡ true
+    unfolding held
+    at5 {u} {v} n o G t h =
+        all-at 5 _ (all-at 5 _
+        (imp-at _ _ (all-at 5 _ (all-at 5 _ (all-at 5 _ t (rank l x) (rank-lt j)) (rank l y) (rank-lt k)) (rank l z) (rank-lt m)) h)
+        (rank l u) (rank-lt n)) (rank l v) (rank-lt o)
 
-  pub meets-bwd : holds i p ≡ true → holds o p ≡ true → meets i o ≡ true
-  unfolding meets holds
-  meets-bwd h k = simp ranks (at _ _ apart-all (simp ranks at (and-of h k)))
+  pub contains-fwd : containsInterval i o ≡ true → holds o p ≡ true → holds i p ≡ true
+  unfolding containsInterval isEmpty holds
+  contains-fwd h k = imp-at _ _ (simp ranks (at5 in-c in-d in-p in-a in-b _ inside-all (simp ranks at k))) h
 
-  pub strict-meets : strictlyHolds i p ≡ true → holds o p ≡ true → strictlyMeets i o ≡ true
-  unfolding strictlyMeets strictlyHolds holds
-  strict-meets h k = simp ranks (at _ _ strict-meet-all (simp ranks at (and-of h k)))
+  pub strict-fwd : interiorContainsInterval i o ≡ true → holds o p ≡ true → interiorContains i p ≡ true
+  unfolding interiorContainsInterval isEmpty holds interiorContains
+  strict-fwd h k = imp-at _ _ (simp ranks (at5 in-c in-d in-p in-a in-b _ strictly-all (simp ranks at k))) h
 
-  pub same-fwd : same i o ≡ true → (holds i p ≡ true → holds o p ≡ true) × (holds o p ≡ true → holds i p ≡ true)
-  unfolding same empty holds
-  same-fwd h =
-      let e : imp (holds i p) (holds o p) && imp (holds o p) (holds i p) ≡ true = simp ranks (at _ _ same-all (simp ranks at h)) in
-      (imp-at (holds i p) (holds o p) (and-l _ (imp (holds o p) (holds i p)) e), imp-at (holds o p) (holds i p) (and-r (imp (holds i p) (holds o p)) _ e))
+  pub meets-bwd : holds i p ≡ true → holds o p ≡ true → intersects i o ≡ true
+  unfolding intersects holds
+  meets-bwd h k = imp-at _ _ (simp ranks (at5 in-c in-d in-p in-a in-b _ apart-all (simp ranks at k))) h
 
-  hull-at : holds (hull i o) p
-      ≡ cond (empty i) (holds o p) (cond (empty o) (holds i p) ((le (i .lo) p || le (o .lo) p) && (le p (i .hi) || le p (o .hi))))
-  unfolding hull holds
-  hull-at =
+  pub strict-meets : interiorContains i p ≡ true → holds o p ≡ true → interiorIntersects i o ≡ true
+  unfolding interiorIntersects interiorContains holds
+  strict-meets h k = imp-at _ _ (simp ranks (at5 in-c in-d in-p in-a in-b _ strict-meet-all (simp ranks at k))) h
+
+  same-contains : line.eq i o ≡ true → containsInterval i o && containsInterval o i ≡ true
+  unfolding line.eq containsInterval isEmpty
+  same-contains h = simp ranks (at4 in-b in-c in-d in-a _ _ same-all (simp ranks at h))
+
+  contains-same : containsInterval i o && containsInterval o i ≡ true → line.eq i o ≡ true
+  unfolding line.eq containsInterval isEmpty
+  contains-same h = simp ranks (at4 in-b in-c in-d in-a _ _ alike-all (simp ranks at h))
+
+  union-at : holds (union i o) p
+      ≡ cond (isEmpty i) (holds o p) (cond (isEmpty o) (holds i p) ((le (i .lo) p || le (o .lo) p) && (le p (i .hi) || le p (o .hi))))
+  unfolding union holds
+  union-at =
       let a = place-num (v .lo-place) in
       let b = place-num (v .hi-place) in
       let c = place-num (w .lo-place) in
@@ -225,13 +276,18 @@ module _ {i o : Interval} {p : Float} (v : InReach i) (w : InReach o) (q : Place
       let n = place-num q in
       simp (cond-of (λ (u : Interval). le (u .lo) p && le p (u .hi)), smaller-le, le-larger)
 
-  pub hull-holds : holds i p || holds o p ≡ true → holds (hull i o) p ≡ true
-  unfolding holds empty
-  hull-holds h = hull-at ∙ simp ranks (at _ _ hull-all (simp ranks at h))
+  pub read-union-holds : holds i p || holds o p ≡ true → holds (union i o) p ≡ true
+  unfolding holds isEmpty
+  read-union-holds h =
+      union-at
+      ∙ ⊎-elim
+      (λ k. simp ranks (at5 in-a in-b in-p in-c in-d _ union-left-all (simp ranks at k)))
+      (λ k. simp ranks (at5 in-c in-d in-p in-a in-b _ union-right-all (simp ranks at k)))
+      (or-at (holds i p) (holds o p) h)
 
-  pub overlap-at : holds (overlap i o) p ≡ holds i p && holds o p
-  unfolding overlap holds
-  overlap-at =
+  pub intersection-at : holds (intersection i o) p ≡ holds i p && holds o p
+  unfolding intersection holds
+  intersection-at =
       let a = place-num (v .lo-place) in
       let b = place-num (v .hi-place) in
       let c = place-num (w .lo-place) in
@@ -241,35 +297,26 @@ module _ {i o : Interval} {p : Float} (v : InReach i) (w : InReach o) (q : Place
 
   -- ---- what ends alone show, the place p left aside
   -- where each end of o that o holds is in i, i covers o
-  pub covers-bwd : Inside i o → covers i o ≡ true
-  unfolding covers empty holds
-  covers-bwd H =
+  pub contains-bwd : Inside i o → containsInterval i o ≡ true
+  unfolding containsInterval isEmpty holds
+  contains-bwd H =
       let e : passG lt le (i .lo) (i .hi) (o .lo) (o .hi) (o .lo) && passG lt le (i .lo) (i .hi) (o .lo) (o .hi) (o .hi) ≡ true =
       and-of (imp-of _ _ (H (o .lo) (w .lo-place))) (imp-of _ _ (H (o .hi) (w .hi-place))) in
-      simp ranks (at _ _ covers-all (simp ranks at e))
+      simp ranks (at4 in-b in-c in-d in-a _ _ contains-all (simp ranks at e))
 
-  pub strict-bwd : StrictlyInside i o → strictlyCovers i o ≡ true
-  unfolding strictlyCovers empty holds strictlyHolds
+  pub strict-bwd : StrictlyInside i o → interiorContainsInterval i o ≡ true
+  unfolding interiorContainsInterval isEmpty holds interiorContains
   strict-bwd H =
       let e : strictPassG lt le (i .lo) (i .hi) (o .lo) (o .hi) (o .lo) && strictPassG lt le (i .lo) (i .hi) (o .lo) (o .hi) (o .hi) ≡ true =
       and-of (imp-of _ _ (H (o .lo) (w .lo-place))) (imp-of _ _ (H (o .hi) (w .hi-place))) in
-      simp ranks (at _ _ strict-covers-all (simp ranks at e))
-
-  pub same-bwd : Inside i o → Inside o i → same i o ≡ true
-  unfolding same empty holds
-  same-bwd H J =
-      let e : (passG lt le (i .lo) (i .hi) (o .lo) (o .hi) (o .lo) && passG lt le (i .lo) (i .hi) (o .lo) (o .hi) (o .hi))
-      && (passG lt le (o .lo) (o .hi) (i .lo) (i .hi) (i .lo) && passG lt le (o .lo) (o .hi) (i .lo) (i .hi) (i .hi)) ≡ true =
-      and-of (and-of (imp-of _ _ (H (o .lo) (w .lo-place))) (imp-of _ _ (H (o .hi) (w .hi-place))))
-      (and-of (imp-of _ _ (J (i .lo) (v .lo-place))) (imp-of _ _ (J (i .hi) (v .hi-place)))) in
-      simp ranks (at _ _ alike-all (simp ranks at e))
+      simp ranks (at4 in-b in-c in-d in-a _ _ strict-contains-all (simp ranks at e))
 
   -- where they meet, the later western end is shared
-  pub meets-fwd : meets i o ≡ true → Meets i o
-  unfolding meets holds
+  pub meets-fwd : intersects i o ≡ true → Meets i o
+  unfolding intersects holds
   meets-fwd h =
       let e : sharedG lt le (i .lo) (i .hi) (o .lo) (o .hi) (i .lo) || sharedG lt le (i .lo) (i .hi) (o .lo) (o .hi) (o .lo) ≡ true =
-      simp ranks (at _ _ meet-all (simp ranks at h)) in
+      simp ranks (at4 in-b in-c in-d in-a _ _ meet-all (simp ranks at h)) in
       ⊎-elim
       (λ s. (i .lo, v .lo-place, and-l _ _ s, and-r (holds i (i .lo)) _ s))
       (λ s. (o .lo, w .lo-place, and-l _ _ s, and-r (holds i (o .lo)) _ s))
@@ -277,63 +324,73 @@ module _ {i o : Interval} {p : Float} (v : InReach i) (w : InReach o) (q : Place
 
   -- ---- one interval alone
   -- an interval that holds a place is not empty
-  pub not-empty : holds i p ≡ true → not (empty i) ≡ true
-  unfolding holds empty
-  not-empty h = simp ranks (at _ _ nothing-all (simp ranks at h))
+  pub not-empty : holds i p ≡ true → not (isEmpty i) ≡ true
+  unfolding holds isEmpty
+  not-empty h = simp ranks (at3 in-a in-b in-p _ _ nothing-all (simp ranks at h))
 
   -- one that is not empty holds its western end
-  pub holds-lo : not (empty i) ≡ true → holds i (i .lo) ≡ true
-  unfolding holds empty
-  holds-lo h = simp ranks (at _ _ start-all (simp ranks at h))
+  pub holds-lo : not (isEmpty i) ≡ true → holds i (i .lo) ≡ true
+  unfolding holds isEmpty
+  holds-lo h = simp ranks (at3 in-a in-b in-p _ _ start-all (simp ranks at h))
 
   -- ---- growth by the number o .lo
-  grown-at : (r : Float) → holds (grown i (o .lo)) r ≡ grownG lt le (i .lo) (i .hi) (o .lo) r
-  unfolding grown holds empty
-  grown-at r = simp (cond-of (λ (u : Interval). le (u .lo) r && le r (u .hi)))
+  read-add-at : (r : Float) → holds (add i (o .lo)) r ≡ grownG lt le (i .lo) (i .hi) (o .lo) r
+  unfolding add holds isEmpty
+  read-add-at r = simp (cond-of (λ (u : Interval). le (u .lo) r && le r (u .hi)))
 
-  pub grown-keeps : holds i p ≡ true → holds (grown i (o .lo)) p ≡ true
+  pub add-keeps : holds i p ≡ true → holds (add i (o .lo)) p ≡ true
   unfolding holds
-  grown-keeps h = grown-at p ∙ simp ranks (at _ _ kept-all (simp ranks at h))
+  add-keeps h = read-add-at p ∙ simp ranks (at4 in-b in-c in-p in-a _ _ kept-all (simp ranks at h))
 
-  pub grown-takes : holds (grown i (o .lo)) (o .lo) ≡ true
-  grown-takes = grown-at (o .lo) ∙ simp ranks (at _ _ taken-all refl)
+  pub add-takes : holds (add i (o .lo)) (o .lo) ≡ true
+  add-takes = read-add-at (o .lo) ∙ simp ranks (at3 in-a in-b in-c _ _ taken-all refl)
 
   -- ---- the pair of the ends of i
-  pair-at : (r : Float) → holds (pair (i .lo) (i .hi)) r ≡ pairG lt le (i .lo) (i .hi) r
-  unfolding pair holds
+  pair-at : (r : Float) → holds (fromPointPair (i .lo) (i .hi)) r ≡ pairG lt le (i .lo) (i .hi) r
+  unfolding fromPointPair holds
   pair-at r = simp (cond-of (λ (u : Interval). le (u .lo) r && le r (u .hi)))
 
-  pub pair-holds : (holds (pair (i .lo) (i .hi)) (i .lo) ≡ true) × (holds (pair (i .lo) (i .hi)) (i .hi) ≡ true)
+  pub pair-holds : (holds (fromPointPair (i .lo) (i .hi)) (i .lo) ≡ true) × (holds (fromPointPair (i .lo) (i .hi)) (i .hi) ≡ true)
   pair-holds =
-      let e : pairG lt le (i .lo) (i .hi) (i .lo) && pairG lt le (i .lo) (i .hi) (i .hi) ≡ true = simp ranks (at _ _ pair-all refl) in
+      let e : pairG lt le (i .lo) (i .hi) (i .lo) && pairG lt le (i .lo) (i .hi) (i .hi) ≡ true = simp ranks (at3 in-a in-b in-p _ _ pair-all refl) in
       (pair-at (i .lo) ∙ and-l _ _ e, pair-at (i .hi) ∙ and-r (pairG lt le (i .lo) (i .hi) (i .lo)) _ e)
 
   -- ---- the number p clamped to i
-  clamped-num : Num (smaller (i .hi) p) ≡ true
+  clamped-num : Num (min (i .hi) p) ≡ true
   clamped-num = place-num (smaller-is Place (v .hi-place) q)
 
   -- i, where it is not empty, holds it
-  pub clamped-held : not (empty i) ≡ true → holds i (clamped i p) ≡ true
-  unfolding holds clamped empty
+  pub clamped-held : not (isEmpty i) ≡ true → holds i (clampPoint i p) ≡ true
+  unfolding holds clampPoint isEmpty
   clamped-held h =
       let a = place-num (v .lo-place) in
       let b = place-num (v .hi-place) in
       let n = place-num q in
       let m = clamped-num in
-      let e : clampHeldG lt le (i .lo) (i .hi) p ≡ true = simp ranks (at _ _ clamped-all (simp ranks at h)) in
+      let e : clampHeldG lt le (i .lo) (i .hi) p ≡ true = simp ranks (at3 in-a in-b in-p _ _ clamped-all (simp ranks at h)) in
       simp (larger-le, le-larger, smaller-le, le-smaller) e
 
   -- it lies on the way from p to the place o .lo, where i holds that
-  pub clamped-nearest : holds i (o .lo) ≡ true → onTheWay p (o .lo) (clamped i p) ≡ true
-  unfolding holds clamped
+  pub clamped-nearest : holds i (o .lo) ≡ true → onTheWay p (o .lo) (clampPoint i p) ≡ true
+  unfolding holds clampPoint
   clamped-nearest h =
       let a = place-num (v .lo-place) in
       let b = place-num (v .hi-place) in
       let c = place-num (w .lo-place) in
       let n = place-num q in
       let m = clamped-num in
-      let e : clampG lt le (i .lo) (i .hi) p (o .lo) ≡ true = simp ranks (at _ _ nearest-all (simp ranks at h)) in
+      let e : clampG lt le (i .lo) (i .hi) p (o .lo) ≡ true = simp ranks (at4 in-b in-p in-c in-a _ _ nearest-all (simp ranks at h)) in
       simp (larger-le, le-larger, smaller-le, le-smaller) e
+
+-- ---- the same places
+module _ {i o : Interval} {p : Float} (v : InReach i) (w : InReach o) (q : Place p) where
+  pub same-fwd : line.eq i o ≡ true → (holds i p ≡ true → holds o p ≡ true) × (holds o p ≡ true → holds i p ≡ true)
+  same-fwd h =
+      let e = same-contains v w q h in
+      (contains-fwd w v q (and-r (containsInterval i o) _ e), contains-fwd v w q (and-l _ (containsInterval o i) e))
+
+  pub same-bwd : Inside i o → Inside o i → line.eq i o ≡ true
+  same-bwd H J = contains-same v w q (and-of (contains-bwd v w q H) (contains-bwd w v q J))
 
 -- ---- intervals of places
 pub point-reach : {x : Float} → Place x → InReach (ends x x)

@@ -1,11 +1,12 @@
 -- Line intervals over places, in document 01's words: for a line interval by itself a place is a double in reach, and the interval holds the places from
 -- lo to hi, both included. Definitions only; the laws are in proofs/Places.antt.
 use mathlib.Core.Path.{_≡_}
-use mathlib.Core.Bool.{Bool, true, _&&_, _||_}
+use mathlib.Core.Bool.{Bool, true, false, _&&_, _||_}
+use mathlib.Core.Logic.{_⊎_}
 use lib.Ieee.{Float, binary64, fits, le}
 use Rattle.consts.specs.Reading.{inReach}
 use Rattle.r1.specs.declared.interval.Interval.{Interval}
-use Rattle.r1.specs.Line.{holds, strictlyHolds}
+use Rattle.r1.specs.Line.{interiorContains}
 
 -- a place: a double in reach
 pub record Place (p : Float) : Type 0 where
@@ -17,13 +18,21 @@ pub record InReach (i : Interval) : Type 0 where
   pub lo-place : Place (i .lo)
   pub hi-place : Place (i .hi)
 
+-- the interval has a number out of reach
+abbrev pub OutOfReach : Interval → Type 0
+OutOfReach i = (inReach (i .lo) ≡ false) ⊎ (inReach (i .hi) ≡ false)
+
+-- i holds the place p: it lies from lo to hi, both included
+unfoldable pub holds : Interval → Float → Bool
+holds i p = le (i .lo) p && le p (i .hi)
+
 -- i holds each place that o holds
 abbrev pub Inside : Interval → Interval → Type 0
 Inside i o = (p : Float) → Place p → holds o p ≡ true → holds i p ≡ true
 
 -- each place that o holds lies strictly between the ends of i
 abbrev pub StrictlyInside : Interval → Interval → Type 0
-StrictlyInside i o = (p : Float) → Place p → holds o p ≡ true → strictlyHolds i p ≡ true
+StrictlyInside i o = (p : Float) → Place p → holds o p ≡ true → interiorContains i p ≡ true
 
 -- some place is held by both
 abbrev pub Meets : Interval → Interval → Type 0

@@ -4,7 +4,7 @@ use mathlib.Core.Bool.{_&&_, cond}
 use Prim.Native.Nat.{ℕ}
 use lib.Ieee.{Float}
 use Rattle.consts.specs.Refusal.{number, accepted, outOfReach, firstRefusal}
-use Rattle.consts.specs.Reading.{inReach, plain, readNumber}
+use Rattle.consts.specs.Reading.{inReach, plain, NoMinus, readNumber}
 use Rattle.r1.specs.declared.interval.Interval.{Interval}
 use Rattle.r1.specs.declared.reading.One.{One}
 use Rattle.r1.specs.declared.reading.Two.{Two}
@@ -13,6 +13,10 @@ use Rattle.r1.specs.declared.reading.With.{With}
 -- both ends with negative zero read as zero
 abbrev pub plainEnds : Interval → Interval
 plainEnds i = record { lo = plain (i .lo); hi = plain (i .hi) }
+
+-- neither end is a negative zero
+abbrev pub NoMinusEnds : Interval → Type 0
+NoMinusEnds i = NoMinus (i .lo) × NoMinus (i .hi)
 
 unfoldable pub readOne : Interval → One
 readOne i = record { refusal = cond (inReach (i .lo) && inReach (i .hi)) (number accepted) (number outOfReach); value = plainEnds i }

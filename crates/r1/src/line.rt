@@ -19,10 +19,11 @@
 use crate::interval::Distance;
 use crate::interval::Interval;
 ghost use mathlib.Core.Path.{_≡_};
-ghost use Rattle.r1.specs.Line.{pair, empty, middle, length, holds, covers, strictlyHolds, strictlyCovers, meets, strictlyMeets, overlap, clamped, widened, hull, approximates, hausdorff, grown, same};
+ghost use Rattle.r1.specs.Line.{fromPointPair, isEmpty, center, len, contains, containsInterval, interiorContains, interiorContainsInterval, intersects, interiorIntersects, intersection, clampPoint, expanded, union, approxEqBy, directedHausdorffDistance, add, eq};
 
+// Does the work of Interval::from_point_pair on operands that have been read.
 pub fn from_point_pair(p1: f64, p2: f64) -> Interval
-    ensures { λ r. ⌜ r ≡ pair p1 p2 ⌝ }
+    ensures { λ r. ⌜ r ≡ fromPointPair p1 p2 ⌝ }
 {
     if p1 <= p2 {
         Interval { lo: p1, hi: p2 }
@@ -31,50 +32,58 @@ pub fn from_point_pair(p1: f64, p2: f64) -> Interval
     }
 }
 
+// Does the work of Interval::is_empty on operands that have been read.
 pub fn is_empty(i: Interval) -> bool
-    ensures { λ r. ⌜ r ≡ empty i ⌝ }
+    ensures { λ r. ⌜ r ≡ isEmpty i ⌝ }
 {
     i.lo > i.hi
 }
 
+// Does the work of Interval::center on operands that have been read.
 pub fn center(i: Interval) -> f64
-    ensures { λ r. ⌜ r ≡ middle i ⌝ }
+    ensures { λ r. ⌜ r ≡ center i ⌝ }
 {
     consts::zero_read(0.5 * (i.lo + i.hi))
 }
 
+// Does the work of Interval::len on operands that have been read.
 pub fn len(i: Interval) -> f64
-    ensures { λ r. ⌜ r ≡ length i ⌝ }
+    ensures { λ r. ⌜ r ≡ len i ⌝ }
 {
     consts::zero_read(i.hi - i.lo)
 }
 
+// Does the work of Interval::contains on operands that have been read.
 pub fn contains(i: Interval, p: f64) -> bool
-    ensures { λ r. ⌜ r ≡ holds i p ⌝ }
+    ensures { λ r. ⌜ r ≡ contains i p ⌝ }
 {
     (i.lo <= p) & (p <= i.hi)
 }
 
+// Does the work of Interval::contains_interval on operands that have been read.
 pub fn contains_interval(i: Interval, oi: Interval) -> bool
-    ensures { λ r. ⌜ r ≡ covers i oi ⌝ }
+    ensures { λ r. ⌜ r ≡ containsInterval i oi ⌝ }
 {
     is_empty(oi) | ((i.lo <= oi.lo) & (oi.hi <= i.hi))
 }
 
+// Does the work of Interval::interior_contains on operands that have been read.
 pub fn interior_contains(i: Interval, p: f64) -> bool
-    ensures { λ r. ⌜ r ≡ strictlyHolds i p ⌝ }
+    ensures { λ r. ⌜ r ≡ interiorContains i p ⌝ }
 {
     (i.lo < p) & (p < i.hi)
 }
 
+// Does the work of Interval::interior_contains_interval on operands that have been read.
 pub fn interior_contains_interval(i: Interval, oi: Interval) -> bool
-    ensures { λ r. ⌜ r ≡ strictlyCovers i oi ⌝ }
+    ensures { λ r. ⌜ r ≡ interiorContainsInterval i oi ⌝ }
 {
     is_empty(oi) | ((i.lo < oi.lo) & (oi.hi < i.hi))
 }
 
+// Does the work of Interval::intersects on operands that have been read.
 pub fn intersects(i: Interval, oi: Interval) -> bool
-    ensures { λ r. ⌜ r ≡ meets i oi ⌝ }
+    ensures { λ r. ⌜ r ≡ intersects i oi ⌝ }
 {
     if i.lo <= oi.lo {
         // oi.lo ∈ i and oi is not empty
@@ -85,14 +94,16 @@ pub fn intersects(i: Interval, oi: Interval) -> bool
     }
 }
 
+// Does the work of Interval::interior_intersects on operands that have been read.
 pub fn interior_intersects(i: Interval, oi: Interval) -> bool
-    ensures { λ r. ⌜ r ≡ strictlyMeets i oi ⌝ }
+    ensures { λ r. ⌜ r ≡ interiorIntersects i oi ⌝ }
 {
     (oi.lo < i.hi) & (i.lo < oi.hi) & (i.lo < i.hi) & (oi.lo <= oi.hi)
 }
 
+// Does the work of Interval::intersection on operands that have been read.
 pub fn intersection(i: Interval, other: Interval) -> Interval
-    ensures { λ r. ⌜ r ≡ overlap i other ⌝ }
+    ensures { λ r. ⌜ r ≡ intersection i other ⌝ }
 {
     // Empty intervals do not need to be special-cased.
     let lo = order::max(i.lo, other.lo);
@@ -100,14 +111,16 @@ pub fn intersection(i: Interval, other: Interval) -> Interval
     Interval { lo, hi }
 }
 
+// Does the work of Interval::clamp_point on operands that have been read.
 pub fn clamp_point(i: Interval, p: f64) -> f64
-    ensures { λ r. ⌜ r ≡ clamped i p ⌝ }
+    ensures { λ r. ⌜ r ≡ clampPoint i p ⌝ }
 {
     order::max(i.lo, order::min(i.hi, p))
 }
 
+// Does the work of Interval::expanded on operands that have been read.
 pub fn expanded(i: Interval, margin: f64) -> Interval
-    ensures { λ r. ⌜ r ≡ widened i margin ⌝ }
+    ensures { λ r. ⌜ r ≡ expanded i margin ⌝ }
 {
     if is_empty(i) {
         return i;
@@ -117,8 +130,9 @@ pub fn expanded(i: Interval, margin: f64) -> Interval
     Interval { lo, hi }
 }
 
+// Does the work of Interval::union on operands that have been read.
 pub fn union(i: Interval, other: Interval) -> Interval
-    ensures { λ r. ⌜ r ≡ hull i other ⌝ }
+    ensures { λ r. ⌜ r ≡ union i other ⌝ }
 {
     if is_empty(i) {
         return other;
@@ -131,8 +145,9 @@ pub fn union(i: Interval, other: Interval) -> Interval
     Interval { lo, hi }
 }
 
+// Does the work of Interval::approx_eq_by on operands that have been read.
 pub fn approx_eq_by(i: Interval, other: Interval, max_error: f64) -> bool
-    ensures { λ r. ⌜ r ≡ approximates i other «max_error» ⌝ }
+    ensures { λ r. ⌜ r ≡ approxEqBy i other «max_error» ⌝ }
 {
     if is_empty(i) {
         return len(other) < 2.0 * max_error;
@@ -143,8 +158,9 @@ pub fn approx_eq_by(i: Interval, other: Interval, max_error: f64) -> bool
     (order::abs(i.lo - other.lo) <= max_error) & (order::abs(i.hi - other.hi) <= max_error)
 }
 
+// Does the work of Interval::directed_hausdorff_distance on operands that have been read.
 pub fn directed_hausdorff_distance(i: Interval, other: Interval) -> Distance
-    ensures { λ r. ⌜ r ≡ hausdorff i other ⌝ }
+    ensures { λ r. ⌜ r ≡ directedHausdorffDistance i other ⌝ }
 {
     if is_empty(i) {
         return Distance::Of(0.0);
@@ -155,8 +171,9 @@ pub fn directed_hausdorff_distance(i: Interval, other: Interval) -> Distance
     Distance::Of(order::max(0.0, order::max(i.hi - other.hi, other.lo - i.lo)))
 }
 
+// Does the work of Interval::add on operands that have been read.
 pub fn add(i: Interval, p: f64) -> Interval
-    ensures { λ r. ⌜ r ≡ grown i p ⌝ }
+    ensures { λ r. ⌜ r ≡ add i p ⌝ }
 {
     if is_empty(i) {
         return Interval { lo: p, hi: p };
@@ -170,8 +187,9 @@ pub fn add(i: Interval, p: f64) -> Interval
     i
 }
 
+// Does the work of Interval::eq on operands that have been read.
 pub fn eq(i: Interval, other: Interval) -> bool
-    ensures { λ r. ⌜ r ≡ same i other ⌝ }
+    ensures { λ r. ⌜ r ≡ eq i other ⌝ }
 {
     ((i.lo == other.lo) & (i.hi == other.hi)) | (is_empty(i) & is_empty(other))
 }

@@ -5,16 +5,20 @@ use mathlib.Core.List.{List, [], _∷_}
 use Prim.Native.Nat.{ℕ}
 use lib.Ieee
 use lib.Ieee.{Float, binary64, ofBits}
-use Rattle.order.specs.Choice.{smaller, larger}
+use Rattle.order.specs.Choice.{min, max}
 use Rattle.consts.specs.Refusal.{firstRefusal}
 use Rattle.consts.specs.Reading.{inReach, plain}
 use Rattle.r1.specs.Line as line
 use Rattle.s1.specs.Circle as circle
-use Rattle.s2.specs.Rect.{latitude, valid}
+use Rattle.s2.specs.Zone.{latitude, isValid}
 use Rattle.s2.specs.Reading.{asRead, rectInReach, readOne}
-use Rattle.region.specs.Clipping.{someHolds, before, sooner, insert, cut, endAt, clip, whole, step, steps, common}
+use Rattle.lists.specs.Rects.{rectsOf, numbersOf, asReadAll}
+use Rattle.lists.specs.Lists.{wholeLength}
+use Rattle.lists.specs.Refused.{firstNumber}
+use Rattle.arcs.specs.CommonArcs.{someHolds}
+use Rattle.arcs.specs.Clipping.{before, sooner, insert, cut, endAt, clip, whole, step, steps, common}
 use Rattle.region.specs.Region.{bandFrom, lngs, across, region}
-use Rattle.region.specs.Answers.{rectsOf, numbers, asReadAll, piecesOf, wholeList, firstRefused, refusalOf, answer, left}
+use Rattle.region.specs.Answers.{piecesOf, refusalOf, answer, left}
 
 abbrev pub double : ℕ → Float
 double b = ofBits binary64 b
@@ -48,7 +52,7 @@ pub record CommonRegions : Type 0 where
   pub room-for-two : answer (zone 0xBFF0000000000000 0x3FF0000000000000 (zone 0x3FF0000000000000 0xBFF0000000000000 [])) 8 ≡ record { refusal = 0; count = 2 }
 
 pub common-regions : CommonRegions
-unfolding answer left refusalOf wholeList firstRefused firstRefusal piecesOf rectsOf numbers asReadAll region bandFrom lngs across common steps step whole clip endAt cut insert sooner before someHolds readOne rectInReach asRead valid latitude line.empty line.overlap circle.valid circle.empty circle.full inReach plain smaller larger ofBits Ieee.lt Ieee.le Ieee.eq
+unfolding answer left refusalOf wholeLength firstNumber firstRefusal piecesOf rectsOf numbersOf asReadAll region bandFrom lngs across common steps step whole clip endAt cut insert sooner before someHolds readOne rectInReach asRead isValid latitude line.isEmpty line.intersection circle.isValid circle.isEmpty circle.isFull inReach plain min max ofBits Ieee.lt Ieee.le Ieee.eq
 common-regions =
     record {
       no-list = record { answers = refl; leaves = refl };

@@ -16,21 +16,27 @@ use Rattle.consts.specs.Refusal.{number, accepted, firstRefusal}
 use Rattle.r1.specs.declared.interval.Interval.{Interval as Line}
 use Rattle.r1.specs.Line as line
 use Rattle.s1.specs.declared.interval.Interval.{Interval as Circle}
+use Rattle.s2.specs.declared.place.Place.{Place}
 use Rattle.s2.specs.declared.rect.Rect.{Rect}
-use Rattle.s2.specs.Rect.{empty}
-use Rattle.s2.specs.Places.{Place, Valid, holds}
+use Rattle.s2.specs.declared.reading.One.{One}
+use Rattle.s2.specs.Zone.{isEmpty}
+use Rattle.s2.specs.Places.{IsPlace, Valid, holds}
 use Rattle.s2.proofs.Readings.{one-in}
-use Rattle.s2.proofs.Places.{own-place, own-held}
+use Rattle.s2.proofs.Places.{own, own-place, own-held}
+use Rattle.lists.specs.Lists.{All, Mem, first, later, whole}
+use Rattle.lists.specs.Rects.{rectsOf, asReadAll}
+use Rattle.lists.specs.Refused.{ofRect, firstRefused, firstNumber}
+use Rattle.lists.proofs.Refused.{passed}
+use Rattle.arcs.specs.Clipping.{common}
+use Rattle.arcs.proofs.Tests.{both-ways}
+use Rattle.arcs.proofs.Laws as arcs
 use Rattle.region.specs.declared.region.Pieces.{Pieces}
-use Rattle.region.specs.CommonRegion.{All, inEvery, inSome, CommonRegion}
-use Rattle.region.specs.Clipping.{common}
+use Rattle.region.specs.CommonRegion.{inEvery, inSome, CommonRegion}
 use Rattle.region.specs.Region.{band, lngs, across, region}
-use Rattle.region.specs.Answers.{rectsOf, asReadAll, piecesOf, wholeList, firstRefused, refusalOf, answer, left, Promised}
-use Rattle.region.proofs.Entries.{Mem, first, later, both-ways}
-use Rattle.region.proofs.Clipping.{common-few}
-use Rattle.region.proofs.Listed.{same-region, listed-is, valid-read-lngs}
+use Rattle.region.specs.Answers.{piecesOf, refusalOf, answer, left, Promised}
+use Rattle.region.proofs.Listed.{same-region, listed-is, arcs-read}
 use Rattle.region.proofs.Unique.{some-of, unique}
-use Rattle.region.proofs.Promises.{length-across, room-enough}
+use Rattle.region.proofs.Cases.{length-across, room-enough}
 
 -- ---- the list found is the common region, and nothing else is
 pub listed-exactly : (rs listed : List Rect) → All Valid rs → CommonRegion rs listed ↔ (listed ≡ region (asReadAll rs))
@@ -40,17 +46,16 @@ listed-exactly rs listed v = (
 )
 
 -- ---- nothing is listed exactly when there is no common place
-pub none-listed : (rs listed : List Rect) → CommonRegion rs listed → (listed ≡ []) ↔ ((x at : Float) (g : Bool) → Place x at g → inEvery rs x at g ≡ false)
+pub none-listed : (rs listed : List Rect) → CommonRegion rs listed → (listed ≡ []) ↔ ((p : Place) → IsPlace p → inEvery rs p ≡ false)
 unfolding inSome
-none-listed rs listed c = (λ e x at g q. sym (c .exact x at g q) ∙ ap (λ (l : List Rect). inSome l x at g) e, go listed (c .exact) (c .valid) (c .non-empty))
+none-listed rs listed c = (λ e p q. sym (c .exact p q) ∙ ap (λ (l : List Rect). inSome l p) e, go listed (c .exact) (c .valid) (c .non-empty))
   where
-    go : (l : List Rect) → ((x at : Float) (g : Bool) → Place x at g → inSome l x at g ≡ inEvery rs x at g) → All Valid l → All (λ r. empty r ≡ false) l
-        → ((x at : Float) (g : Bool) → Place x at g → inEvery rs x at g ≡ false) → l ≡ []
+    go : (l : List Rect) → ((p : Place) → IsPlace p → inSome l p ≡ inEvery rs p) → All Valid l → All (λ r. isEmpty r ≡ false) l
+        → ((p : Place) → IsPlace p → inEvery rs p ≡ false) → l ≡ []
     go [] e v n h = refl
     go (r ∷ l) e v n h =
         let q = own-place (v .0) (n .0) in
-        absurd (false≢true (sym (h (r .lat .lo) (r .lng .hi) false q) ∙ sym (e (r .lat .lo) (r .lng .hi) false q)
-        ∙ some-of (r .lat .lo) (r .lng .hi) false (first {l = l}) (own-held (v .0) (n .0))))
+        absurd (false≢true (sym (h (own r) q) ∙ sym (e (own r) q) ∙ some-of (own r) (first {l = l}) (own-held (v .0) (n .0))))
 
 -- ---- every piece carries the common latitude band
 carried : (b : Line) (l : List Circle) → All (λ r. r .lat ≡ b) (across b l)
@@ -60,7 +65,7 @@ carried b (i ∷ l) = (refl, carried b l)
 
 pub carries-band : (rs : List Rect) → All (λ r. r .lat ≡ band (asReadAll rs)) (region (asReadAll rs))
 unfolding region
-carries-band rs = go (line.empty (band (asReadAll rs)))
+carries-band rs = go (line.isEmpty (band (asReadAll rs)))
   where
     go : (t : Bool) → All (λ r. r .lat ≡ band (asReadAll rs)) (cond t [] (across (band (asReadAll rs)) (common (lngs (asReadAll rs)))))
     go true = tt
@@ -79,7 +84,7 @@ length-read (r ∷ l) = ap suc (length-read l)
 
 pub at-most : (rs : List Rect) → All Valid rs → 1 ≤ length rs → length (region (asReadAll rs)) ≤ length rs
 unfolding region
-at-most rs v h = go (line.empty (band (asReadAll rs)))
+at-most rs v h = go (line.isEmpty (band (asReadAll rs)))
   where
     n : length (lngs (asReadAll rs)) ≡ length rs
     n = length-lngs (asReadAll rs) ∙ length-read rs
@@ -87,43 +92,43 @@ at-most rs v h = go (line.empty (band (asReadAll rs)))
     go : (t : Bool) → length (cond t [] (across (band (asReadAll rs)) (common (lngs (asReadAll rs))))) ≤ length rs
     go true = omega arith
     go false =
-        omega (arith, length-across (band (asReadAll rs)) (common (lngs (asReadAll rs))), n, common-few (lngs (asReadAll rs)) (valid-read-lngs rs v) (omega (arith, n)))
+        omega (arith, length-across (band (asReadAll rs)) (common (lngs (asReadAll rs))), n, arcs.at-most (lngs (asReadAll rs)) (arcs-read rs v) (omega (arith, n)))
 
 -- ---- order and repetition
-every-at : {r : Rect} {l : List Rect} (x at : Float) (g : Bool) → inEvery l x at g ≡ true → Mem r l → holds r x at g ≡ true
+every-at : {r : Rect} {l : List Rect} (p : Place) → inEvery l p ≡ true → Mem r l → holds r p ≡ true
 unfolding inEvery
-every-at x at g h first = and-l _ _ h
-every-at x at g h (later {y} {l} m) = every-at x at g (and-r (holds y x at g) _ h) m
+every-at p h first = and-l _ _ h
+every-at p h (later {y} {l} m) = every-at p (and-r (holds y p) _ h) m
 
-every-of : (l : List Rect) (x at : Float) (g : Bool) → ((r : Rect) → Mem r l → holds r x at g ≡ true) → inEvery l x at g ≡ true
+every-of : (l : List Rect) (p : Place) → ((r : Rect) → Mem r l → holds r p ≡ true) → inEvery l p ≡ true
 unfolding inEvery
-every-of [] x at g f = refl
-every-of (r ∷ l) x at g f = and-of (f r first) (every-of l x at g (λ o m. f o (later m)))
+every-of [] p f = refl
+every-of (r ∷ l) p f = and-of (f r first) (every-of l p (λ o m. f o (later m)))
 
 -- each entry of l is one of m
 abbrev pub Within : List Rect → List Rect → Type 0
 Within l m = (r : Rect) → Mem r l → Mem r m
 
-every-same : (l m : List Rect) → Within l m → Within m l → (x at : Float) (g : Bool) → inEvery l x at g ≡ inEvery m x at g
-every-same l m f h x at g =
-    both-ways _ _ (λ t. every-of m x at g (λ r n. every-at x at g t (h r n))) (λ t. every-of l x at g (λ r n. every-at x at g t (f r n)))
+every-same : (l m : List Rect) → Within l m → Within m l → (p : Place) → inEvery l p ≡ inEvery m p
+every-same l m f h p =
+    both-ways _ _ (λ t. every-of m p (λ r n. every-at p t (h r n))) (λ t. every-of l p (λ r n. every-at p t (f r n)))
 
 pub same-entries : (l m : List Rect) → All Valid l → All Valid m → Within l m → Within m l → region (asReadAll l) ≡ region (asReadAll m)
 same-entries l m v w f h =
-    unique m (region (asReadAll l)) (region (asReadAll m)) (same-region l m (region (asReadAll l)) (λ x at g q. every-same l m f h x at g) (listed-is l v)) (listed-is m w)
+    unique m (region (asReadAll l)) (region (asReadAll m)) (same-region l m (region (asReadAll l)) (λ p q. every-same l m f h p) (listed-is l v)) (listed-is m w)
 
 -- no entry of a list of valid rectangles is refused
 none-refused : (rs : List Rect) → All Valid rs → firstRefused rs ≡ 0
-unfolding firstRefused firstRefusal
+unfolding firstNumber
 none-refused [] v = refl
-none-refused (r ∷ l) v = rw (one-in r (v .0)) (none-refused l (v .1))
+none-refused (r ∷ l) v = passed ofRect r l (ap (λ (x : One). x .refusal) (one-in r (v .0))) ∙ none-refused l (v .1)
 
 -- up to 512 valid rectangles, with room for the pieces, are accepted
-pub accepts : (l : List Float) (room : ℕ) → wholeList l ≡ true → All Valid (rectsOf l) → 4 * length (piecesOf l) ≤ room → refusalOf l room ≡ number accepted
+pub accepts : (l : List Float) (room : ℕ) → whole 4 512 l ≡ true → All Valid (rectsOf l) → 4 * length (piecesOf l) ≤ room → refusalOf l room ≡ number accepted
 accepts l room w v h = room-enough l room w (none-refused (rectsOf l) v) (length (piecesOf l)) refl h
 
 -- lists of numbers that hold the same valid rectangles, in any order and however often, have the same answer and leave the same output
-module _ (l m : List Float) (p : wholeList l ≡ true) (q : wholeList m ≡ true) (v : All Valid (rectsOf l)) (w : All Valid (rectsOf m))
+module _ (l m : List Float) (p : whole 4 512 l ≡ true) (q : whole 4 512 m ≡ true) (v : All Valid (rectsOf l)) (w : All Valid (rectsOf m))
     (f : Within (rectsOf l) (rectsOf m)) (h : Within (rectsOf m) (rectsOf l)) where
   same-pieces : piecesOf l ≡ piecesOf m
   unfolding piecesOf

@@ -1,107 +1,167 @@
--- The answer and what is left in the output, by what was found in the list. Assumes nothing.
-use mathlib.Core.Path.{_≡_, refl, sym, ap, _∙_}
-use mathlib.Core.Bool.{Bool, true, false, cond, _&&_}
-use mathlib.Core.List.{List, [], _∷_, _++_}
-use Prim.Native.Nat.{ℕ, suc, _*_, _%_, _≤_, _<_}
+-- What document 01 promises of the common region, each promise one theorem about what a caller of `common_region` sees: from its contract, `Promised`, for
+-- the list l and the output out that are lent, the answer r and the output left, out'. Assumes nothing.
+use mathlib.Core.Path.{_≡_, refl, sym, ap, _∙_, subst}
+use mathlib.Core.Bool.{Bool, true, false}
+use mathlib.Core.List.{List, [], _∷_}
+use mathlib.Core.Logic.{_⊎_, inl, inr, _↔_}
+use Prim.Native.Nat.{ℕ, _*_, _%_, _≤_, _<_}
 use native.Mathlib.Omega.{arith}
-use borrow.Author.Tests.{le-leb, lt-leb, eq-eqb, ne-eqb}
-use lib.ListN.{length, take, drop, getD}
-use lib.Seq.{length-take-le}
-use lib.Dec.{T, leb}
-use lib.Ieee.{Float, nan, binary64, fits}
-use Rattle.consts.specs.Refusal.{number, accepted, badList, noRoom, firstRefusal}
-use Rattle.r1.specs.declared.interval.Interval.{Interval as Line}
-use Rattle.r1.specs.Line as line
-use Rattle.s1.specs.declared.interval.Interval.{Interval}
+use borrow.Author.Tests.{eqb-true, eqb-false}
+use lib.ListN.{length, take, drop}
+use lib.Dec.{eqb}
+use lib.Ieee.{Float}
+use Rattle.consts.specs.Refusal.{Reason, number, accepted, outOfReach, notValid, badList, noRoom}
+use Rattle.consts.specs.Reading.{plain}
+use Rattle.s2.specs.declared.place.Place.{Place}
 use Rattle.s2.specs.declared.rect.Rect.{Rect}
+use Rattle.s2.specs.Zone.{FULL}
+use Rattle.s2.specs.Reading.{asRead}
+use Rattle.s2.specs.Places.{IsPlace, Valid}
+use Rattle.lists.specs.Lists.{All, Mem}
+use Rattle.lists.specs.Rects.{rectsOf, numbersOf, asReadAll}
 use Rattle.region.specs.declared.region.Pieces.{Pieces}
-use Rattle.region.specs.declared.finding.Found.{Found}
-use Rattle.region.specs.Clipping.{common}
-use Rattle.region.specs.Region.{band, lngs, across, region}
-use Rattle.region.specs.Answers.{rectsOf, numbers, asReadAll, piecesOf, wholeList, firstRefused, refusalOf, answer, left, Promised}
-use Rattle.region.specs.Arrays.{IsFound}
+use Rattle.region.specs.CommonRegion.{inEvery, CommonRegion}
+use Rattle.region.specs.Region.{band}
+use Rattle.region.specs.Answers.{piecesOf, Promised}
+use Rattle.region.proofs.Cases.{good}
 use Rattle.region.proofs.Listed.{listed-is}
-use Rattle.region.proofs.Accepted.{all-valid}
+use Rattle.region.proofs.Refusals.{Whole, OutOfReach, NotValid, Accepted, FirstIs, Why, exactly}
+use Rattle.region.proofs.Laws as laws
+use Rattle.region.proofs.Listings.{refusal-is, counted, front, behind, no-pieces, one-full}
 
-abbrev pub pieces : ℕ → ℕ → Pieces
-pieces n k = record { refusal = n; count = k }
+-- ---- demand 3
+-- no place lies in every rectangle given
+abbrev NoCommonPlace : List Rect → Type 0
+NoCommonPlace given = (p : Place) → IsPlace p → inEvery given p ≡ false
 
--- ---- whole rectangles, at most 512
-module _ (l : List Float) where
-  pub odd : (length l % 4 ≡ 0 → ⊥) → wholeList l ≡ false
-  unfolding wholeList
-  odd h = ap (λ (t : Bool). t && leb (length l) 2048) (ne-eqb (length l % 4) 0 h)
+pub record Demand3 (l out : List Float) (r : Pieces) (out' : List Float) : Type 0 where
+  -- the list is accepted, and the pieces counted
+  pub accepts : r .refusal ≡ 0
+  pub pieces : List Rect
+  pub counted : r .count ≡ length pieces
+  -- as numbers they are the first of the output; the rest of it is as it was
+  pub written : take (4 * r .count) out' ≡ numbersOf pieces
+  pub rest : drop (4 * r .count) out' ≡ drop (4 * r .count) out
+  -- they are the common region of the rectangles given
+  pub region : CommonRegion (rectsOf l) pieces
+  -- n rectangles, n at least 1, have at most n
+  pub at-most : 1 ≤ length (rectsOf l) → r .count ≤ length (rectsOf l)
+  -- there are none exactly when there is no common place
+  pub none : (r .count ≡ 0) ↔ NoCommonPlace (rectsOf l)
 
-  pub long : length l % 4 ≡ 0 → 2048 < length l → wholeList l ≡ false
-  unfolding wholeList
-  long h k = ap (λ (t : Bool). t && leb (length l) 2048) (eq-eqb (length l % 4) 0 h) ∙ lt-leb (length l) 2048 k
+length-nil : {A : Type 0} (l : List A) → length l ≡ 0 → l ≡ []
+length-nil [] e = refl
+length-nil (x ∷ l) e = absurd (omega arith)
 
-  pub good : length l % 4 ≡ 0 → length l ≤ 2048 → wholeList l ≡ true
-  unfolding wholeList
-  good h k = ap (λ (t : Bool). t && leb (length l) 2048) (eq-eqb (length l % 4) 0 h) ∙ le-leb (length l) 2048 k
+-- for up to 512 valid rectangles, and room for their common region
+pub demand-3 : (l out : List Float) (r : Pieces) (out' : List Float) → Promised l out r out' → length l % 4 ≡ 0 → length l ≤ 2048 → All Valid (rectsOf l)
+    → ((ps : List Rect) → CommonRegion (rectsOf l) ps → 4 * length ps ≤ length out) → Demand3 l out r out'
+unfolding piecesOf
+demand-3 l out r out' p w h v room =
+    let c : CommonRegion (rectsOf l) (piecesOf l) = listed-is (rectsOf l) v in
+    let a : r .refusal ≡ 0 = refusal-is p ∙ laws.accepts l (length out) (good l w h) v (room (piecesOf l) c) in
+    let n = counted p a in
+    let none = laws.none-listed (rectsOf l) (piecesOf l) c in
+    record {
+      accepts = a;
+      pieces = piecesOf l;
+      counted = n;
+      written = front p a;
+      rest = behind p a;
+      region = c;
+      at-most = λ k. omega (arith, n, laws.at-most (rectsOf l) v k);
+      none = (λ e. none .0 (length-nil (piecesOf l) (sym n ∙ e)), λ e. n ∙ ap length (none .1 e));
+    }
 
--- ---- the refusal
-module _ (l : List Float) (room : ℕ) where
-  pub bad-list : wholeList l ≡ false → refusalOf l room ≡ number badList
-  unfolding refusalOf
-  bad-list w = simp w
+-- reordering or repeating entries, still up to 512, changes nothing
+pub any-order : (l m out : List Float) (r s : Pieces) (outₗ outₘ : List Float) → Promised l out r outₗ → Promised m out s outₘ
+    → length l % 4 ≡ 0 → length l ≤ 2048 → length m % 4 ≡ 0 → length m ≤ 2048 → All Valid (rectsOf l) → All Valid (rectsOf m)
+    → ((x : Rect) → Mem x (rectsOf l) → Mem x (rectsOf m)) → ((x : Rect) → Mem x (rectsOf m) → Mem x (rectsOf l)) → (r ≡ s) × (outₗ ≡ outₘ)
+any-order l m out r s outₗ outₘ p q lw lh mw mh v w f g = (
+  p .answers ∙ laws.same-answer l m (good l lw lh) (good m mw mh) v w f g (length out) ∙ sym (q .answers),
+  p .leaves ∙ laws.same-left l m (good l lw lh) (good m mw mh) v w f g out ∙ sym (q .leaves),
+)
 
-  module _ (w : wholeList l ≡ true) where
-    pub bad-entry : (n : ℕ) → n ≡ firstRefused (rectsOf l) → (n ≡ 0 → ⊥) → refusalOf l room ≡ n
-    unfolding refusalOf firstRefusal
-    bad-entry n e h = simp (w, sym e, ne-eqb n 0 h)
+-- ---- "The common region"
+-- pieces carry the common latitude band
+pub carry-band : (l : List Float) → All (λ p. p .lat ≡ band (asReadAll (rectsOf l))) (piecesOf l)
+unfolding piecesOf
+carry-band l = laws.carries-band (rectsOf l)
 
-    module _ (a : firstRefused (rectsOf l) ≡ 0) where
-      pub no-room : (n : ℕ) → length (piecesOf l) ≡ n → room < 4 * n → refusalOf l room ≡ number noRoom
-      unfolding refusalOf firstRefusal
-      no-room n e h = simp (w, a, e, lt-leb _ _ h)
+-- an empty list gives the full rectangle, once
+pub empty-list : (out : List Float) (r : Pieces) (out' : List Float) → Promised [] out r out' → 4 ≤ length out → (r .refusal ≡ 0) × (r .count ≡ 1) × (take 4 out' ≡ numbersOf (FULL ∷ []))
+unfolding rectsOf
+empty-list out r out' p h =
+    let n : length (piecesOf []) ≡ 1 = ap length one-full in
+    let a : r .refusal ≡ 0 = refusal-is p ∙ laws.accepts [] (length out) (good [] refl (omega arith)) tt (omega (arith, n)) in
+    let c : r .count ≡ 1 = counted p a ∙ n in
+    (a, c, ap (λ (k : ℕ). take (4 * k) out') (sym c) ∙ front p a ∙ ap numbersOf one-full)
 
-      pub room-enough : (n : ℕ) → length (piecesOf l) ≡ n → 4 * n ≤ room → refusalOf l room ≡ number accepted
-      unfolding refusalOf firstRefusal
-      room-enough n e h = simp (w, a, e, le-leb _ _ h)
+-- numbers after the last piece stay unchanged, whatever is answered
+pub rest-unchanged : (l out : List Float) (r : Pieces) (out' : List Float) → Promised l out r out' → drop (4 * r .count) out' ≡ drop (4 * r .count) out
+rest-unchanged l out r out' p = go (eqb (r .refusal) 0) refl
+  where
+    go : (t : Bool) → eqb (r .refusal) 0 ≡ t → drop (4 * r .count) out' ≡ drop (4 * r .count) out
+    go true e = behind p (eqb-true (r .refusal) 0 e)
+    go false e = ap (drop (4 * r .count)) (laws.unaltered l out p (eqb-false (r .refusal) 0 e))
 
--- ---- the promise
-module _ (l out : List Float) where
-  -- where nothing is written
-  pub refused-left : (n : ℕ) (last : List Float) → refusalOf l (length out) ≡ n → (n ≡ 0 → ⊥) → last ≡ out → Promised l out (pieces n 0) last
-  unfolding answer left
-  refused-left n last e h k =
-      let z = ne-eqb n 0 h in
-      record { answers = simp (e, z); leaves = simp (e, z) k; lists = λ t. absurd (h t) }
+-- ---- "Refusal numbers": each is given exactly when its row says, with no pieces, and alters no number of the output
+pub record Given (n : ℕ) (when : Type 0) (out : List Float) (r : Pieces) (out' : List Float) : Type 0 where
+  pub exactly-when : (r .refusal ≡ n) ↔ when
+  pub none : r .refusal ≡ n → r .count ≡ 0
+  pub output : r .refusal ≡ n → out' ≡ out
 
-  pub refused : (n : ℕ) → refusalOf l (length out) ≡ n → (n ≡ 0 → ⊥) → Promised l out (pieces n 0) out
-  refused n e h = refused-left n out e h refl
+module _ (l out : List Float) (r : Pieces) (out' : List Float) (p : Promised l out r out') where
+  abbrev ForReason : Reason → Type 0 → Type 0
+  ForReason w when = Given (number w) when out r out'
 
-  pub granted : ((i : ℕ) → T (fits binary64 (getD l i nan))) → wholeList l ≡ true → firstRefused (rectsOf l) ≡ 0 → (n : ℕ) (last : List Float) → length (piecesOf l) ≡ n → 4 * n ≤ length out
-      → last ≡ numbers (piecesOf l) ++ drop (4 * n) out → Promised l out (pieces 0 n) last
-  unfolding answer left
-  granted d w a n last e h k =
-      let z = room-enough l (length out) w a n e h in
-      record { answers = simp (z, e); leaves = simp (z, e) k; lists = λ t. unfold piecesOf in (listed-is (rectsOf l) (all-valid l d a)) }
+  refused-for : (w : Reason) → (number w ≡ 0 → ⊥) → ForReason w (Why l (length out) w)
+  refused-for w z =
+      let e = exactly l (length out) w in
+      record { exactly-when = (λ h. e .0 (sym (refusal-is p) ∙ h), λ h. refusal-is p ∙ e .1 h); none = λ h. no-pieces p (λ k. z (sym h ∙ k)); output = λ h. laws.unaltered l out p (λ k. z (sym h ∙ k)) }
 
-  pub granted-none : ((i : ℕ) → T (fits binary64 (getD l i nan))) → wholeList l ≡ true → firstRefused (rectsOf l) ≡ 0 → piecesOf l ≡ [] → Promised l out (pieces 0 0) out
-  unfolding numbers
-  granted-none d w a e = granted d w a 0 out (ap (λ (r : List Rect). length r) e) (omega arith) (ap (λ (r : List Rect). numbers r ++ out) (sym e))
+  -- 5: the list's length is no multiple of 4, or over 2,048
+  pub refused-5 : Given 5 ((length l % 4 ≡ 0 → ⊥) ⊎ (2048 < length l)) out r out'
+  refused-5 = refused-for badList (eqb-false 5 0 refl)
 
--- ---- the pieces, by what was found
-module _ (l : List Float) (f : Found) (d : List Interval) (p : IsFound l f d) (a : f .refusal ≡ number accepted) where
-  pub none : line.empty (f .lat) ≡ true → piecesOf l ≡ []
-  unfolding piecesOf region
-  none e =
-      ap (λ (t : Bool). cond t [] (across (band (asReadAll (rectsOf l))) (common (lngs (asReadAll (rectsOf l))))))
-      (ap (λ (b : Line). line.empty b) (sym (p .lat-is a)) ∙ e)
+  -- 1: the list is whole, and its first entry that is refused has a number out of reach
+  pub refused-1 : Given 1 (Whole l × FirstIs OutOfReach (rectsOf l)) out r out'
+  refused-1 = refused-for outOfReach (eqb-false 1 0 refl)
 
-  pub some : line.empty (f .lat) ≡ false → piecesOf l ≡ across (f .lat) (take (f .count) d)
-  unfolding piecesOf region
-  some e =
-      ap (λ (t : Bool). cond t [] (across (band (asReadAll (rectsOf l))) (common (lngs (asReadAll (rectsOf l))))))
-      (ap (λ (b : Line). line.empty b) (sym (p .lat-is a)) ∙ e)
-      ∙ ap (λ (b : Line). across b (common (lngs (asReadAll (rectsOf l))))) (sym (p .lat-is a)) ∙ ap (λ (m : List Interval). across (f .lat) m) (sym (p .is a e))
+  -- 2: the list is whole, and its first entry that is refused has its numbers in reach, but is not valid
+  pub refused-2 : Given 2 (Whole l × FirstIs NotValid (rectsOf l)) out r out'
+  refused-2 = refused-for notValid (eqb-false 2 0 refl)
 
-pub length-across : (b : Line) (l : List Interval) → length (across b l) ≡ length l
-unfolding across
-length-across b [] = refl
-length-across b (x ∷ l) = ap suc (length-across b l)
+  -- 6: the list is whole and all its entries are accepted, and the output has fewer than 4 numbers a piece
+  pub refused-6 : Given 6 (Whole l × All Accepted (rectsOf l) × (length out < 4 * length (piecesOf l))) out r out'
+  refused-6 = refused-for noRoom (eqb-false 6 0 refl)
 
-pub count : (l : List Float) (f : Found) (d : List Interval) → IsFound l f d → f .refusal ≡ number accepted → line.empty (f .lat) ≡ false → f .count ≤ length d → length (piecesOf l) ≡ f .count
-count l f d p a e h = ap (λ (r : List Rect). length r) (some l f d p a e) ∙ length-across (f .lat) (take (f .count) d) ∙ length-take-le (f .count) d h
+  -- 0: else it is accepted
+  pub accepted-0 : (r .refusal ≡ 0) ↔ (Whole l × All Accepted (rectsOf l) × (4 * length (piecesOf l) ≤ length out))
+  accepted-0 = let e = exactly l (length out) accepted in (λ h. e .0 (sym (refusal-is p) ∙ h), λ h. refusal-is p ∙ e .1 h)
+
+-- no refusal alters a lent number
+pub no-refusal-alters : (l out : List Float) (r : Pieces) (out' : List Float) → Promised l out r out' → (r .refusal ≡ 0 → ⊥) → out' ≡ out
+no-refusal-alters l out r out' p = laws.unaltered l out p
+
+-- ---- "Strength of the contracts": two answers that the contract allows, and the outputs left, coincide
+pub determined : (l out : List Float) (r s : Pieces) (o o' : List Float) → Promised l out r o → Promised l out s o' → (r ≡ s) × (o ≡ o')
+determined l out r s o o' p q = laws.determined l out p q
+
+-- ---- no negative zero is written
+plain-numbers : (ps : List Rect) → All (λ r. asRead r ≡ r) ps → All (λ x. plain x ≡ x) (numbersOf ps)
+unfolding numbersOf asRead
+plain-numbers [] a = tt
+plain-numbers (r ∷ ps) a = (
+  ap (λ (z : Rect). z .lat .lo) (a .0),
+  (ap (λ (z : Rect). z .lat .hi) (a .0), (ap (λ (z : Rect). z .lng .lo) (a .0), (ap (λ (z : Rect). z .lng .hi) (a .0), plain-numbers ps (a .1)))),
+)
+
+pub no-negative-zero : (l out : List Float) (r : Pieces) (out' : List Float) → Promised l out r out' → All (λ x. plain x ≡ x) (take (4 * r .count) out')
+no-negative-zero l out r out' p = go (eqb (r .refusal) 0) refl
+  where
+    go : (t : Bool) → eqb (r .refusal) 0 ≡ t → All (λ x. plain x ≡ x) (take (4 * r .count) out')
+    go true e =
+        let a = eqb-true (r .refusal) 0 e in
+        subst (λ (o : List Float). All (λ x. plain x ≡ x) o) (sym (front p a)) (plain-numbers (piecesOf l) (p .lists a .plain))
+    go false e = subst (λ (n : ℕ). All (λ x. plain x ≡ x) (take (4 * n) out')) (sym (no-pieces p (eqb-false (r .refusal) 0 e))) tt

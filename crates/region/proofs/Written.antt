@@ -10,18 +10,18 @@ use lib.Ieee.{Float, nan}
 use Rattle.r1.specs.declared.interval.Interval.{Interval as Line}
 use Rattle.s1.specs.declared.interval.Interval.{Interval}
 use Rattle.s1.specs.Circle.{ends}
+use Rattle.lists.specs.Rects.{numbersOf}
 use Rattle.region.specs.Region.{across}
-use Rattle.region.specs.Answers.{numbers}
-use Rattle.region.specs.Arrays.{zip}
-use Rattle.region.proofs.Turns.{zip-length, zip-at}
+use Rattle.arcs.specs.Arrays.{zip}
+use Rattle.arcs.proofs.Turns.{zip-length, zip-at}
 
-numbers-append : (b : Line) (l m : List Interval) → numbers (across b (l ++ m)) ≡ numbers (across b l) ++ numbers (across b m)
-unfolding numbers across
+numbers-append : (b : Line) (l m : List Interval) → numbersOf (across b (l ++ m)) ≡ numbersOf (across b l) ++ numbersOf (across b m)
+unfolding numbersOf across
 numbers-append b [] m = refl
 numbers-append b (x ∷ l) m = ap (λ (r : List Float). b .lo ∷ (b .hi ∷ (x .lo ∷ (x .hi ∷ r)))) (numbers-append b l m)
 
-pub length-numbers : (b : Line) (l : List Interval) → length (numbers (across b l)) ≡ 4 * length l
-unfolding numbers across
+pub length-numbers : (b : Line) (l : List Interval) → length (numbersOf (across b l)) ≡ 4 * length l
+unfolding numbersOf across
 length-numbers b [] = refl
 length-numbers b (x ∷ l) = omega (arith, length-numbers b l)
 
@@ -30,19 +30,19 @@ module _ (b : Line) (d : List Interval) (k : ℕ) (z : Interval) (h : k < length
   x = getD d k z
 
   abbrev done : List Float
-  done = numbers (across b (take k d))
+  done = numbersOf (across b (take k d))
 
-  done-suc : numbers (across b (take (k + 1) d)) ≡ done ++ (b .lo ∷ (b .hi ∷ (x .lo ∷ (x .hi ∷ []))))
-  unfolding numbers across
+  done-suc : numbersOf (across b (take (k + 1) d)) ≡ done ++ (b .lo ∷ (b .hi ∷ (x .lo ∷ (x .hi ∷ []))))
+  unfolding numbersOf across
   done-suc =
       let e : take (k + 1) d ≡ take k d ++ (x ∷ []) = rw (add-one k) (take-suc d k z h) in
-      ap (λ (l : List Interval). numbers (across b l)) e ∙ numbers-append b (take k d) (x ∷ [])
+      ap (λ (l : List Interval). numbersOf (across b l)) e ∙ numbers-append b (take k d) (x ∷ [])
 
   done-length : length done ≡ 4 * k
   done-length = length-numbers b (take k d) ∙ ap (λ (n : ℕ). 4 * n) (length-take-le k d (omega arith))
 
   pub turn-out : (o o₀ : List Float) → o ≡ done ++ drop (4 * k) o₀ → length o ≡ length o₀ → 4 * k + 4 ≤ length o₀
-      → set (set (set (set o (4 * k) (b .lo)) (4 * k + 1) (b .hi)) (4 * k + 2) (x .lo)) (4 * k + 3) (x .hi) ≡ numbers (across b (take (k + 1) d)) ++ drop (4 * (k + 1)) o₀
+      → set (set (set (set o (4 * k) (b .lo)) (4 * k + 1) (b .hi)) (4 * k + 2) (x .lo)) (4 * k + 3) (x .hi) ≡ numbersOf (across b (take (k + 1) d)) ++ drop (4 * (k + 1)) o₀
   turn-out o o₀ e f g =
       let vs : List Float = b .lo ∷ (b .hi ∷ (x .lo ∷ (x .hi ∷ []))) in
       let s1 : 4 * k + 1 ≡ suc (4 * k) = omega arith in
@@ -57,19 +57,19 @@ module _ (b : Line) (d : List Interval) (k : ℕ) (z : Interval) (h : k < length
       (sets-eq vs o (4 * k) (omega arith) ∙ ap (λ (l : List Float). (l ++ vs) ++ drop (4 * k + 4) o) a ∙ ap (λ (l : List Float). (done ++ vs) ++ l) c
       ∙ ap (λ (l : List Float). l ++ drop (4 * (k + 1)) o₀) (sym done-suc))
 
-pub out-none : (b : Line) (d : List Interval) (o : List Float) → o ≡ numbers (across b (take 0 d)) ++ drop (4 * 0) o
-unfolding numbers across
+pub out-none : (b : Line) (d : List Interval) (o : List Float) → o ≡ numbersOf (across b (take 0 d)) ++ drop (4 * 0) o
+unfolding numbersOf across
 out-none b d o = refl
 
 -- no piece leaves the output as it was
-pub out-nothing : (b : Line) (d : List Interval) (n : ℕ) (o last : List Float) → n ≡ 0 → last ≡ numbers (across b (take n d)) ++ drop (4 * n) o → last ≡ o
-out-nothing b d n o last e h = h ∙ ap (λ (k : ℕ). numbers (across b (take k d)) ++ drop (4 * k) o) e ∙ sym (out-none b d o)
+pub out-nothing : (b : Line) (d : List Interval) (n : ℕ) (o last : List Float) → n ≡ 0 → last ≡ numbersOf (across b (take n d)) ++ drop (4 * n) o → last ≡ o
+out-nothing b d n o last e h = h ∙ ap (λ (k : ℕ). numbersOf (across b (take k d)) ++ drop (4 * k) o) e ∙ sym (out-none b d o)
 
 -- the pieces in two arrays
-pub out-turn : (b : Line) (lo hi : List Float) (k : ℕ) → k < length lo → length lo ≡ length hi → (o o₀ : List Float) → o ≡ numbers (across b (take k (zip lo hi))) ++ drop (4 * k) o₀ → length o ≡ length o₀
+pub out-turn : (b : Line) (lo hi : List Float) (k : ℕ) → k < length lo → length lo ≡ length hi → (o o₀ : List Float) → o ≡ numbersOf (across b (take k (zip lo hi))) ++ drop (4 * k) o₀ → length o ≡ length o₀
     → 4 * k + 4 ≤ length o₀
-    → set (set (set (set o (4 * k) (b .lo)) (4 * k + 1) (b .hi)) (4 * k + 2) (getD lo k nan)) (4 * k + 3) (getD hi k nan) ≡ numbers (across b (take (k + 1) (zip lo hi))) ++ drop (4 * (k + 1)) o₀
+    → set (set (set (set o (4 * k) (b .lo)) (4 * k + 1) (b .hi)) (4 * k + 2) (getD lo k nan)) (4 * k + 3) (getD hi k nan) ≡ numbersOf (across b (take (k + 1) (zip lo hi))) ++ drop (4 * (k + 1)) o₀
 out-turn b lo hi k h q o o₀ e f g =
     let z : Interval = ends (getD lo k nan) (getD hi k nan) in
-    subst (λ (y : Interval). set (set (set (set o (4 * k) (b .lo)) (4 * k + 1) (b .hi)) (4 * k + 2) (y .lo)) (4 * k + 3) (y .hi) ≡ numbers (across b (take (k + 1) (zip lo hi))) ++ drop (4 * (k + 1)) o₀)
+    subst (λ (y : Interval). set (set (set (set o (4 * k) (b .lo)) (4 * k + 1) (b .hi)) (4 * k + 2) (y .lo)) (4 * k + 3) (y .hi) ≡ numbersOf (across b (take (k + 1) (zip lo hi))) ++ drop (4 * (k + 1)) o₀)
     (zip-at lo hi k nan nan z h q) (turn-out b (zip lo hi) k z (omega (arith, zip-length lo hi q)) o o₀ e f g)

@@ -1,8 +1,4 @@
 pub mod CommonRegion
-pub mod Clipping
 pub mod Region
 pub mod Answers
-pub mod Arrays
-pub mod Arcs
-pub mod Sweep
-pub mod Permutations
+pub mod Inside

@@ -2,17 +2,17 @@
 -- Definitions only; that this is the common region is proved in proofs/Listed.antt.
 use mathlib.Core.Bool.{cond}
 use mathlib.Core.List.{List, [], _∷_}
+use Rattle.arcs.specs.Clipping.{common}
 use Rattle.r1.specs.declared.interval.Interval.{Interval as Line}
 use Rattle.r1.specs.Line as line
 use Rattle.s1.specs.declared.interval.Interval.{Interval as Circle}
 use Rattle.s2.specs.declared.rect.Rect.{Rect}
-use Rattle.s2.specs.Rect.{box, LATITUDES}
-use Rattle.region.specs.Clipping.{common}
+use Rattle.s2.specs.Zone.{box, LATITUDES}
 
 -- what the latitudes have in common with the band b
 unfoldable pub bandFrom : Line → List Rect → Line
 bandFrom b [] = b
-bandFrom b (r ∷ l) = bandFrom (line.overlap b (r .lat)) l
+bandFrom b (r ∷ l) = bandFrom (line.intersection b (r .lat)) l
 
 -- the common latitude band
 abbrev pub band : List Rect → Line
@@ -28,4 +28,4 @@ across b [] = []
 across b (i ∷ l) = box b i ∷ across b l
 
 unfoldable pub region : List Rect → List Rect
-region rs = cond (line.empty (band rs)) [] (across (band rs) (common (lngs rs)))
+region rs = cond (line.isEmpty (band rs)) [] (across (band rs) (common (lngs rs)))

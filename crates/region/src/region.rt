@@ -6,16 +6,18 @@ use consts::ACCEPTED;
 use consts::BAD_LIST;
 use consts::NO_ROOM;
 use r1::interval::Interval as Line;
-use r1::line;
 ghost use mathlib.Core.Path.{_≡_};
 ghost use mathlib.Core.List.{_++_};
-ghost use Prim.Native.Nat.{_+_, _*_, _≤_, _%_};
+ghost use Prim.Native.Nat.{_*_, _≤_, _%_};
 ghost use lib.ListN.{length, take, drop};
+ghost use Rattle.lists.specs.Rects.{numbersOf};
+ghost use Rattle.arcs.specs.Arrays.{zip};
 ghost use Rattle.region.specs.Region.{across};
-ghost use Rattle.region.specs.Answers.{numbers, Promised};
-ghost use Rattle.region.specs.Arrays.{zip, Fitted};
+ghost use Rattle.region.specs.Answers.{Promised};
+ghost use Rattle.region.specs.Inside.{Room, Fitted, IsWritten};
 
 // How many pieces were listed; none under a refusal.
+#[repr(C)]
 pub struct Pieces {
     pub refusal: u8,
     pub count: usize,
@@ -35,7 +37,7 @@ fn fitting(n: usize, room: usize) -> usize
 // The first n pieces, with the latitude band b, to the start of `out`.
 fn write_out(lo: &[f64], hi: &[f64], n: usize, b: Line, out: &mut [f64])
     requires { ⌜ (n ≤ 1024) × (n ≤ length (now lo)) × (length (now lo) ≡ length (now hi)) × (4 * n ≤ length (now out)) ⌝ }
-    ensures { λ _. ⌜ now (out .exit) ≡ numbers (across b (take n (zip (now (lo .entry)) (now (hi .entry))))) ++ drop (4 * n) (now (out .entry)) ⌝ }
+    ensures { λ _. ⌜ now (out .exit) ≡ numbersOf (across b (take n (zip (now (lo .entry)) (now (hi .entry))))) ++ drop (4 * n) (now (out .entry)) ⌝ }
 {
     let mut k = 0;
     while k < n {
@@ -44,6 +46,25 @@ fn write_out(lo: &[f64], hi: &[f64], n: usize, b: Line, out: &mut [f64])
         out[4 * k + 2] = lo[k];
         out[4 * k + 3] = hi[k];
         k += 1;
+    }
+}
+
+// The first n pieces, with the latitude band b, to the start of `out` where they all have room.
+fn list_pieces(lo: &[f64], hi: &[f64], n: usize, b: Line, out: &mut [f64]) -> Pieces
+    requires { ⌜ (n ≤ 1024) × (n ≤ length (now lo)) × (length (now lo) ≡ length (now hi)) ⌝ }
+    ensures { λ r. ⌜ IsWritten (across b (take n (zip (now (lo .entry)) (now (hi .entry))))) (now (out .entry)) r (now (out .exit)) ⌝ }
+{
+    let k = fitting(n, out.len());
+    write_out(lo, hi, k, b, out);
+    if k < n {
+        return Pieces {
+            refusal: NO_ROOM,
+            count: 0,
+        };
+    }
+    Pieces {
+        refusal: ACCEPTED,
+        count: n,
     }
 }
 
@@ -57,7 +78,7 @@ fn region_in(
     hi: &mut [f64],
     out: &mut [f64],
 ) -> Pieces
-    requires { ⌜ (length (now list) % 4 ≡ 0) × (length (now list) ≤ 2048) × (length (now list) ≤ 4 * length (now west)) × (length (now west) ≡ length (now east)) × (length (now list) + 8 ≤ 4 * length (now lo)) × (length (now lo) ≡ length (now hi)) ⌝ }
+    requires { ⌜ Room (now list) (now west) (now east) (now lo) (now hi) ⌝ }
     ensures { λ r. ⌜ Promised (now (list .entry)) (now (out .entry)) r (now (out .exit)) ⌝ }
 {
     let f = find(list, west, east, lo, hi);
@@ -67,44 +88,16 @@ fn region_in(
             count: 0,
         };
     }
-    if line::is_empty(f.lat) {
-        return Pieces {
-            refusal: ACCEPTED,
-            count: 0,
-        };
-    }
-    let n = fitting(f.count, out.len());
-    write_out(lo, hi, n, f.lat, out);
-    if n < f.count {
-        return Pieces {
-            refusal: NO_ROOM,
-            count: 0,
-        };
-    }
-    Pieces {
-        refusal: ACCEPTED,
-        count: f.count,
-    }
+    list_pieces(lo, hi, f.count, f.lat, out)
 }
 
-// The common region of the rectangles in `list`, to the start of `out`. The arrays that the pieces are
-// found in have room for one arc and one piece a rectangle; a short list takes short ones.
-pub fn common_region(list: &[f64], out: &mut [f64]) -> Pieces
+// The common region of a list of whole rectangles. The arrays that the pieces are found in have room for one
+// arc and one piece a rectangle; a short list takes short ones.
+fn region_sized(list: &[f64], out: &mut [f64]) -> Pieces
+    requires { ⌜ (length (now list) % 4 ≡ 0) × (length (now list) ≤ 2048) ⌝ }
     ensures { λ r. ⌜ Promised (now (list .entry)) (now (out .entry)) r (now (out .exit)) ⌝ }
 {
     let n = list.len();
-    if n % 4 != 0 {
-        return Pieces {
-            refusal: BAD_LIST,
-            count: 0,
-        };
-    }
-    if n > 2048 {
-        return Pieces {
-            refusal: BAD_LIST,
-            count: 0,
-        };
-    }
     if n <= 64 {
         let mut west = [0.0; 16];
         let mut east = [0.0; 16];
@@ -131,4 +124,29 @@ pub fn common_region(list: &[f64], out: &mut [f64]) -> Pieces
     let mut lo = [0.0; 514];
     let mut hi = [0.0; 514];
     region_in(list, &mut west, &mut east, &mut lo, &mut hi, out)
+}
+
+// The common region of the rectangles in `list`, to the start of `out`.
+// Laws: Laws.listed-exactly, Laws.accepts, Laws.none-listed, Laws.at-most, Laws.unaltered,
+// Laws.determined.
+// Ruled out: of [-1, 1] and [1, -1]: one piece, [-1, 1], or none; of [2, 1] and [0.5, 0.25]: [2,
+// 0.25] first; of one empty rectangle: one empty piece; a refusal, and a number of the output
+// changed.
+pub fn common_region(list: &[f64], out: &mut [f64]) -> Pieces
+    ensures { λ r. ⌜ Promised (now (list .entry)) (now (out .entry)) r (now (out .exit)) ⌝ }
+{
+    let n = list.len();
+    if n % 4 != 0 {
+        return Pieces {
+            refusal: BAD_LIST,
+            count: 0,
+        };
+    }
+    if n > 2048 {
+        return Pieces {
+            refusal: BAD_LIST,
+            count: 0,
+        };
+    }
+    region_sized(list, out)
 }

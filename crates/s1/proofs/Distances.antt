@@ -26,7 +26,7 @@ use Rattle.s1.proofs.Margins.{difference}
 use Rattle.consts.specs.Constants.{PI, NEG-PI, TURN, NEG-TURN, FOUR-PI}
 use Rattle.consts.specs.Answer.{ZERO}
 use Rattle.consts.specs.Remainder.{turn, value}
-use Rattle.s1.specs.Circle.{distance}
+use Rattle.s1.specs.Circle.{positiveDistance}
 
 -- ---- numbers u and v, which are t together, rounded to x and y: what is gained is at most h
 -- where both grids, g and k, are at most h
@@ -190,8 +190,8 @@ turned {a} {b} p q h = go (le b a) refl
         let l = lt-le a b (not-le b a (real-num b (q .real)) (real-num a (p .real)) e) in
         absurd (false≢true (sym h ∙ sub-from-zero b a (q .real) (p .real) l))
 
-pub distance-between : {a b : Float} → Between NEG-PI PI a → Between NEG-PI PI b → Between ZERO TURN (distance a b)
-unfolding distance fits ofBits
+pub distance-between : {a b : Float} → Between NEG-PI PI a → Between NEG-PI PI b → Between ZERO TURN (positiveDistance a b)
+unfolding positiveDistance fits ofBits
 distance-between {a} {b} p q = go (le ZERO (sub binary64 b a)) refl
   where
     go : (t : Bool) → le ZERO (sub binary64 b a) ≡ t → Between ZERO TURN (cond t (sub binary64 b a) (sub binary64 (add binary64 b PI) (sub binary64 a PI)))

@@ -1,4 +1,6 @@
 pub mod Readings
+pub mod Forms
+pub mod Spots
 pub mod Trials
 pub mod Held
 pub mod Limits
@@ -11,3 +13,5 @@ pub mod Distances
 pub mod Expansions
 pub mod Measures
 pub mod Closes
+pub mod Refusals
+pub mod Promises

@@ -1,29 +1,29 @@
--- Operands within the limits are accepted, with their zeros read, which changes no place that they hold; and what stands outside is refused with document
--- 01's number, the first operand that is refused deciding. Assumes nothing.
+-- Operands within the limits are accepted, with their zeros read, which changes no place that they hold. (What stands outside them: Refusals.) Assumes
+-- nothing.
 use mathlib.Core.Path.{_≡_, refl, sym, _∙_}
 use mathlib.Core.Bool.{Bool, true, false, _&&_, cond}
-use lib.Ieee.{Float, binary64, lt, le, eq, fits, ofBits}
-use borrow.Author.Tests.{ne-eqb}
+use lib.Ieee.{Float, binary64, lt, le, eq, ofBits}
 use Rattle.order.specs.Key.{Num}
 use Rattle.order.proofs.Ranks.{and-l, and-r, and-of}
 use Rattle.order.proofs.Keys.{lt-key, le-key, eq-key}
 use Rattle.order.proofs.Facts.{tests}
 use Rattle.consts.specs.Constants.{PI, NEG-PI}
-use Rattle.consts.specs.Refusal.{number, accepted, outOfReach, notValid, badPoint, firstRefusal}
+use Rattle.consts.specs.Refusal.{number, accepted, firstRefusal}
 use Rattle.consts.specs.Reading.{inReach, plain, readNumber}
 use Rattle.consts.proofs.Readings.{plain-fits, plain-num, plain-le, le-plain, plain-lt, lt-plain, plain-eq, eq-plain}
 use Rattle.s1.specs.declared.interval.Interval.{Interval}
-use Rattle.s1.specs.Circle.{valid, seam}
+use Rattle.s1.specs.Circle.{isValid, seam}
 use Rattle.s1.specs.Reading.{plainEnds, onCircle, readOne, readEnds, readTwo, readPoint, readWithPoint, readWithMargin}
 use Rattle.s1.specs.Places.{holds, strictlyHolds, Place, Valid}
+pub use Rattle.s1.specs.Places.{OnCircle}
 use Rattle.s1.proofs.Readings.{num-of, circle-reach, valid-reach}
 use Rattle.s1.proofs.Held.{num-PI, num-NEG, lo-num, hi-num, at-num, at-PI}
 
 -- ---- zeros read
 module _ (i : Interval) (v : Valid i) where
   -- the comparisons with an end that has been read are those with the end
-  valid-same : valid (plainEnds i) ≡ valid i
-  unfolding valid
+  valid-same : isValid (plainEnds i) ≡ isValid i
+  unfolding isValid
   valid-same =
       let a = lo-num v in
       let b = hi-num v in
@@ -63,13 +63,13 @@ module _ (i : Interval) (v : Valid i) where
     point-plain =
         let a = lo-num v in
         let b = hi-num v in
-        simp (plain-le, le-plain, plain-lt, lt-plain)
+        simp (plain-le, le-plain, plain-lt)
 
     pub strict-point : strictlyHolds i (plain p) g ≡ strictlyHolds i p g
     strict-point =
         let a = lo-num v in
         let b = hi-num v in
-        simp (plain-le, le-plain, plain-lt, lt-plain, plain-eq)
+        simp (plain-le, le-plain, plain-lt, plain-eq)
 
 pub plain-place : {x : Float} → Place x false → Place (plain x) false
 plain-place {x} q =
@@ -80,10 +80,6 @@ plain-place {x} q =
     }
 
 -- ---- a point of the circle, and its place
-pub record OnCircle (p : Float) : Type 0 where
-  pub is-double : fits binary64 p ≡ true
-  pub on-circle : onCircle p ≡ true
-
 module _ {p : Float} (q : OnCircle p) where
   from-west : le NEG-PI p ≡ true
   unfolding onCircle
@@ -157,25 +153,3 @@ read-point p q = simp (q .on-circle)
 pub ends-in : (lo hi : Float) → OnCircle lo → OnCircle hi → readEnds lo hi ≡ record { refusal = number accepted; value = record { lo = plain lo; hi = plain hi } }
 unfolding readEnds
 ends-in lo hi q r = simp (circle-reach lo (q .is-double) (q .on-circle), circle-reach hi (r .is-double) (r .on-circle), q .on-circle, r .on-circle)
-
--- ---- outside
-pub one-out : (i : Interval) → inReach (i .lo) && inReach (i .hi) ≡ false → readOne i .refusal ≡ number outOfReach
-unfolding readOne
-one-out i h = simp h
-
-pub one-not-valid : (i : Interval) → inReach (i .lo) && inReach (i .hi) ≡ true → valid i ≡ false → readOne i .refusal ≡ number notValid
-unfolding readOne
-one-not-valid i h k = simp (h, k)
-
-pub point-out : (p : Float) → onCircle p ≡ false → readPoint p ≡ record { refusal = number badPoint; value = plain p }
-unfolding readPoint
-point-out p h = simp h
-
--- the left operand decides; then the right one
-pub two-left : (i o : Interval) → (readOne i .refusal ≡ number accepted → ⊥) → readTwo i o .refusal ≡ readOne i .refusal
-unfolding readTwo firstRefusal
-two-left i o h = simp (ne-eqb (readOne i .refusal) 0 h)
-
-pub two-right : (i o : Interval) → Valid i → readTwo i o .refusal ≡ readOne o .refusal
-unfolding readTwo firstRefusal
-two-right i o v = rw (one-in i v)

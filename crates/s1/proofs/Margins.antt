@@ -11,9 +11,9 @@ use Rattle.order.proofs.Bounds.{Between, between, fixed, from, up-to, above, un
 use Rattle.consts.specs.Constants.{PI, NEG-PI, TURN, THREE-PI, NEG-THREE-PI, FOUR-PI, NEG-FOUR-PI, NEG-TURN, DBL-EPSILON, NEG-ONE, TWO, HALF}
 use Rattle.consts.specs.Answer.{ZERO}
 use Rattle.consts.specs.Reading.{inReach, plain, LEAST, MOST}
-use Rattle.consts.specs.Remainder.{within}
+use Rattle.consts.specs.Remainder.{withinFourPi}
 use Rattle.consts.proofs.Readings.{plain-fits, plain-le, le-plain}
-use Rattle.s1.specs.Circle.{ends, middle, length}
+use Rattle.s1.specs.Circle.{ends, center, len}
 
 -- ---- ends and margins
 pub on-circle : (x : Float) → fits binary64 x ≡ true → le NEG-PI x ≡ true → le x PI ≡ true → Between NEG-PI PI x
@@ -30,8 +30,8 @@ unfolding fits ofBits le lt eq sub
 difference p q = sub-between NEG-TURN TURN p q refl
 
 -- the length lies from -1 to 2 PI
-pub length-between : {lo hi : Float} → Between NEG-PI PI lo → Between NEG-PI PI hi → Between NEG-ONE TURN (length (ends lo hi))
-unfolding length fits ofBits le lt eq add
+pub length-between : {lo hi : Float} → Between NEG-PI PI lo → Between NEG-PI PI hi → Between NEG-ONE TURN (len (ends lo hi))
+unfolding len fits ofBits le lt eq add
 length-between {lo} {hi} p q = first (sub binary64 hi lo) (difference q p) (le ZERO (sub binary64 hi lo)) refl
   where
     second : (e : Float) → Between ZERO TURN e → (t : Bool) → Between NEG-ONE TURN (cond t e NEG-ONE)
@@ -50,8 +50,8 @@ plain-between {a} {b} {x} h =
     (le-plain a x (real-num a (h .real-low)) n ∙ h .low) (plain-le x b n (real-num b (h .real-high)) ∙ h .high)
 
 -- the middle lies from -PI to PI
-pub middle-between : {lo hi : Float} → Between NEG-PI PI lo → Between NEG-PI PI hi → Between NEG-PI PI (middle (ends lo hi))
-unfolding middle fits ofBits le lt eq add sub mul
+pub middle-between : {lo hi : Float} → Between NEG-PI PI lo → Between NEG-PI PI hi → Between NEG-PI PI (center (ends lo hi))
+unfolding center fits ofBits le lt eq add sub mul
 middle-between {lo} {hi} p q = plain-between (go (mul binary64 HALF (add binary64 lo hi)) (mul-between HALF NEG-PI PI refl (add-between NEG-TURN TURN p q refl) refl) (lt hi lo))
   where
     opposite : (c : Float) → Between NEG-PI PI c → (t : Bool) → le c ZERO ≡ t → Between NEG-PI PI (cond t (add binary64 c PI) (sub binary64 c PI))
@@ -104,10 +104,10 @@ module _ {m l : Float} (h : Between LEAST MOST m) (k : Between NEG-ONE TURN l) w
 
 -- an end moved by such a margin, to either side
 abbrev pub Moved : Float → Float → Type 0
-Moved x m = (within (sub binary64 x m) ≡ true) × (within (add binary64 x m) ≡ true)
+Moved x m = (withinFourPi (sub binary64 x m) ≡ true) × (withinFourPi (add binary64 x m) ≡ true)
 
 moved : {x m : Float} → Between NEG-PI PI x → Between NEG-THREE-PI THREE-PI m → Moved x m
-unfolding within fits ofBits le lt eq add sub
+unfolding withinFourPi fits ofBits le lt eq add sub
 moved p b =
     let d = sub-between NEG-FOUR-PI FOUR-PI p b refl in
     let s = add-between NEG-FOUR-PI FOUR-PI p b refl in

@@ -1,18 +1,25 @@
 -- The numbers that a circle interval is measured by, of the answers themselves: a length lies from -1 to 2 PI, a centre from -PI to PI, a distance going
--- east from 0 to 2 PI. (A length of -1 is no sign of EMPTY alone: docs/DIFFERENCES.md, F1.) Assumes nothing.
+-- east from 0 to 2 PI; and the two ends of the directed Hausdorff distance. (A length of -1 is no sign of EMPTY alone: docs/DIFFERENCES.md, F1.) Assumes nothing.
+use mathlib.Core.Path.{_≡_, refl}
+use mathlib.Core.Bool.{Bool, true, false}
 use lib.Ieee.{Float, le}
 use Rattle.order.proofs.Ranks.{and-l, and-r}
 use Rattle.order.proofs.Bounds.{Between}
 use Rattle.consts.specs.Constants.{PI, NEG-PI, TURN, NEG-ONE}
-use Rattle.consts.specs.Answer.{ZERO}
+use Rattle.consts.specs.Answer.{ZERO, numberAnswer}
 use Rattle.consts.specs.Refusal.{firstRefusal}
 use Rattle.consts.specs.Reading.{plain}
 use Rattle.s1.specs.declared.interval.Interval.{Interval}
 use Rattle.s1.specs.Reading.{plainEnds, onCircle}
+use Rattle.s1.specs.Circle as circle
+use Rattle.s1.specs.Circle.{containsInterval}
+use Rattle.s1.specs.Answers as answers
 use Rattle.s1.specs.Answers.{center, len, positiveDistance}
-use Rattle.s1.specs.Places.{Valid}
+use Rattle.s1.specs.Places.{Valid, Inside, Nothing}
 use Rattle.s1.proofs.Readings.{valid-on}
-use Rattle.s1.proofs.Limits.{OnCircle, circle-plain, valid-plain, one-in, read-point}
+use Rattle.s1.proofs.Limits.{OnCircle, circle-plain, valid-plain, one-in, two-in, read-point}
+use Rattle.s1.proofs.Laws as laws
+use Rattle.s1.proofs.Places.{inside-plain, plain-inside, nothing-plain}
 use Rattle.s1.proofs.Margins.{on-circle, length-between, middle-between, plain-between}
 use Rattle.s1.proofs.Distances.{distance-between}
 
@@ -44,3 +51,24 @@ unfolding positiveDistance firstRefusal
 distance-bounds a b q r =
     simp (read-point a q, read-point b r)
     (plain-between (distance-between (point-between (plain a) (circle-plain q)) (point-between (plain b) (circle-plain r))))
+
+-- the directed Hausdorff distance of an interval within the other is 0; otherwise, where the other has no place, it is PI
+module _ (i o : Interval) (v : Valid i) (w : Valid o) where
+  abbrev x : Valid (plainEnds i)
+  x = valid-plain i v
+
+  abbrev y : Valid (plainEnds o)
+  y = valid-plain o w
+
+  pub hausdorff-inside : Inside o i → answers.directedHausdorffDistance i o ≡ numberAnswer ZERO
+  unfolding answers.directedHausdorffDistance circle.directedHausdorffDistance
+  hausdorff-inside H = simp (two-in i o v w, laws.contains-inside y x .1 (inside-plain w v H))
+
+  pub hausdorff-empty : (Inside o i → ⊥) → Nothing o → answers.directedHausdorffDistance i o ≡ numberAnswer PI
+  unfolding answers.directedHausdorffDistance circle.directedHausdorffDistance
+  hausdorff-empty H J =
+      simp (two-in i o v w, not-covered (containsInterval (plainEnds o) (plainEnds i)) refl, laws.empty-nothing y .1 (nothing-plain w J))
+    where
+      not-covered : (t : Bool) → containsInterval (plainEnds o) (plainEnds i) ≡ t → t ≡ false
+      not-covered true h = absurd (H (plain-inside w v (laws.contains-inside y x .0 h)))
+      not-covered false h = refl

@@ -1,26 +1,28 @@
 -- The circle interval over places: what document 01 and the comments of s1interval.h say of each operation, for all valid operands, of the answers
 -- themselves. Each follows from Held, at the operands as they are read. Assumes nothing.
-use mathlib.Core.Path.{_≡_, refl, sym, ap, _∙_}
+use mathlib.Core.Path.{_≡_, sym, ap, _∙_}
 use mathlib.Core.Bool.{Bool, true, false, not}
 use mathlib.Core.Logic.{_⊎_, inl, inr, _↔_}
-use lib.Ieee.{Float, lt, le, eq}
-use Rattle.order.proofs.Ranks.{and-l, and-r, or-at, or-of-l, or-of-r}
-use Rattle.consts.specs.Constants.{PI, NEG-PI}
-use Rattle.consts.specs.Refusal.{number, badPoint, firstRefusal}
+use lib.Ieee.{Float, eq}
+use Rattle.order.proofs.Ranks.{and-l, and-r}
+use Rattle.consts.specs.Constants.{NEG-PI}
+use Rattle.consts.specs.Refusal.{firstRefusal}
 use Rattle.consts.specs.Answer.{yesNo, Decides}
 use Rattle.consts.specs.Reading.{plain}
 use Rattle.order.specs.Key.{Num}
 use Rattle.consts.proofs.Readings.{plain-num, plain-plain, plain-same}
 use Rattle.consts.proofs.Decisions.{decides}
 use Rattle.s1.specs.declared.interval.Interval.{Interval}
-use Rattle.s1.specs.Circle.{strictlyHasG, seam, pair, full, empty, fast, has, covers, strictlyHas, strictlyCovers, meets, strictlyMeets, hull, overlap, rest, grown, same}
-use Rattle.s1.specs.Reading.{plainEnds, onCircle}
-use Rattle.s1.specs.Answers.{circleAnswer, isValid, isFull, isEmpty, contains, fastContains, interiorContains, containsInterval, interiorContainsInterval, intersects, interiorIntersects, equal, union, intersection, complement, fromPointPair, add}
+use Rattle.s1.specs.Circle as circle
+use Rattle.s1.specs.Circle.{seam}
+use Rattle.s1.specs.Reading.{plainEnds}
+use Rattle.s1.specs.Answers as answers
+use Rattle.s1.specs.Answers.{circleAnswer, isValid, isFull, isEmpty, contains, fastContains, interiorContains, containsInterval, interiorContainsInterval, intersects, interiorIntersects, union, intersection, complement, fromPointPair, add}
 use Rattle.s1.specs.Places.{holds, strictlyHolds, Place, Valid, Inside, StrictlyInside, Meets, StrictlyMeets, Nothing, Everything}
 use Rattle.s1.proofs.Held as held
-use Rattle.s1.proofs.Held.{at-PI, at-num, clash}
+use Rattle.s1.proofs.Held.{at-num}
 use Rattle.s1.proofs.Laws as laws
-use Rattle.s1.proofs.Limits.{OnCircle, valid-plain, holds-plain, strict-plain, point-plain, strict-point, plain-place, circle-plain, point-num, seam-place, seam-plain, one-in, two-in, point-in, read-point, point-out}
+use Rattle.s1.proofs.Limits.{OnCircle, valid-plain, holds-plain, strict-plain, point-plain, strict-point, circle-plain, point-num, seam-place, seam-plain, one-in, two-in, point-in, read-point}
 
 -- ---- an interval and itself as it is read
 module _ {i : Interval} (v : Valid i) {p : Float} {g : Bool} (q : Place p g) where
@@ -36,8 +38,14 @@ module _ {i : Interval} (v : Valid i) {p : Float} {g : Bool} (q : Place p g) whe
   from-strict : strictlyHolds (plainEnds i) p g ≡ true → strictlyHolds i p g ≡ true
   from-strict h = sym (strict-plain i v p g (at-num q)) ∙ h
 
-inside-plain : {i o : Interval} → Valid i → Valid o → Inside i o → Inside (plainEnds i) (plainEnds o)
+pub inside-plain : {i o : Interval} → Valid i → Valid o → Inside i o → Inside (plainEnds i) (plainEnds o)
 inside-plain v w H p g q h = to-plain v q (H p g q (from-plain w q h))
+
+pub plain-inside : {i o : Interval} → Valid i → Valid o → Inside (plainEnds i) (plainEnds o) → Inside i o
+plain-inside v w H p g q h = from-plain v q (H p g q (to-plain w q h))
+
+pub nothing-plain : {i : Interval} → Valid i → Nothing i → Nothing (plainEnds i)
+nothing-plain v H p g q h = H p g q (from-plain v q h)
 
 -- ---- one interval
 module _ (i : Interval) (v : Valid i) where
@@ -53,19 +61,19 @@ module _ (i : Interval) (v : Valid i) where
   pub is-empty-places : Decides (isEmpty i) (Nothing i)
   unfolding isEmpty
   is-empty-places =
-      decides {b = empty (plainEnds i)} (simp (one-in i v))
-      (λ e p g q h. clash (holds (plainEnds i) p g) (to-plain v q h) (held.empty-fwd v₁ v₁ q e))
-      (λ H. held.empty-bwd v₁ v₁ at-PI (λ p g q h. H p g q (from-plain v q h)))
+      decides {b = circle.isEmpty (plainEnds i)} (simp (one-in i v))
+      (λ e p g q h. laws.empty-nothing v₁ .0 e p g q (to-plain v q h))
+      (λ H. laws.empty-nothing v₁ .1 (nothing-plain v H))
 
   pub is-full-places : Decides (isFull i) (Everything i)
   unfolding isFull
   is-full-places =
-      decides {b = full (plainEnds i)} (simp (one-in i v))
-      (λ e p g q. from-plain v q (held.full-fwd v₁ v₁ q e))
-      (λ H. held.full-bwd v₁ v₁ at-PI (λ p g q. to-plain v q (H p g q)))
+      decides {b = circle.isFull (plainEnds i)} (simp (one-in i v))
+      (λ e p g q. from-plain v q (laws.full-everything v₁ .0 e p g q))
+      (λ H. laws.full-everything v₁ .1 (λ p g q. to-plain v q (H p g q)))
 
   -- the complement holds exactly the places that do not lie strictly inside
-  pub complement-is : complement i ≡ circleAnswer (rest (plainEnds i))
+  pub complement-is : complement i ≡ circleAnswer (circle.complement (plainEnds i))
   unfolding complement
   complement-is = simp (one-in i v)
 
@@ -85,7 +93,7 @@ module _ (i : Interval) (v : Valid i) where
     n = at-num (seam-place q)
 
     pub contains-place : Decides (contains i p) (holds i (seam p) false ≡ true)
-    unfolding contains has fast
+    unfolding contains circle.contains circle.fastContains circle.isEmpty
     contains-place =
         let e : holds (plainEnds i) (seam (plain p)) false ≡ holds i (seam p) false =
         rw (seam-plain q) (holds-plain i v (plain (seam p)) false (plain-num (seam p) n) ∙ point-plain i v (seam p) false n) in
@@ -93,7 +101,7 @@ module _ (i : Interval) (v : Valid i) where
 
     -- `fast_contains` of a point other than -PI too (of -PI itself docs/DIFFERENCES.md, F7)
     pub fast-contains-place : eq p NEG-PI ≡ false → Decides (fastContains i p) (holds i (seam p) false ≡ true)
-    unfolding fastContains fast seam
+    unfolding fastContains circle.fastContains circle.isEmpty seam
     fast-contains-place k =
         let m = point-num q in
         let e : holds (plainEnds i) (plain p) false ≡ holds i p false = holds-plain i v (plain p) false (plain-num p m) ∙ point-plain i v p false m in
@@ -101,13 +109,12 @@ module _ (i : Interval) (v : Valid i) where
 
     -- `interior_contains` exactly when it lies strictly inside
     pub interior-contains-place : Decides (interiorContains i p) (strictlyHolds i (seam p) false ≡ true)
-    unfolding interiorContains strictlyHas
+    unfolding interiorContains
     interior-contains-place =
-        let e : strictlyHolds (plainEnds i) (plain (seam p)) false ≡ strictlyHolds i (seam p) false =
-        strict-plain i v (plain (seam p)) false (plain-num (seam p) n) ∙ strict-point i v (seam p) false n in
-        let s = held.strictly-has v₁ v₁ (plain-place (seam-place q)) refl in
-        decides {b = strictlyHasG lt le eq NEG-PI PI (plain (i .lo)) (plain (i .hi)) (plain (seam p))} (simp (point-in i v p q, seam-plain q))
-        (λ h. sym e ∙ s .0 h) (λ h. s .1 (e ∙ h))
+        let e : circle.interiorContains (plainEnds i) (plain p) ≡ strictlyHolds i (seam p) false =
+        laws.strictly-has-place v₁ (circle-plain q)
+        ∙ rw (seam-plain q) (strict-plain i v (plain (seam p)) false (plain-num (seam p) n) ∙ strict-point i v (seam p) false n) in
+        decides {b = circle.interiorContains (plainEnds i) (plain p)} (simp (point-in i v p q)) (λ h. sym e ∙ h) (λ h. e ∙ h)
 
 -- ---- two intervals
 module _ (i o : Interval) (v : Valid i) (w : Valid o) where
@@ -117,132 +124,121 @@ module _ (i o : Interval) (v : Valid i) (w : Valid o) where
   abbrev w' : Valid (plainEnds o)
   w' = valid-plain o w
 
+  meets-plain : Meets i o → Meets (plainEnds i) (plainEnds o)
+  meets-plain m = (m .0, m .1, m .2, to-plain v (m .2) (m .3), to-plain w (m .2) (m .4))
+
   -- `contains_interval` exactly when each place of the other is in this one
   pub contains-interval-places : Decides (containsInterval i o) (Inside i o)
   unfolding containsInterval
   contains-interval-places =
-      decides {b = covers (plainEnds i) (plainEnds o)} (simp (two-in i o v w))
-      (λ h p g q k. from-plain v q (held.covers-fwd v' w' q h (to-plain w q k)))
-      (λ H. held.covers-bwd v' w' at-PI (inside-plain v w H))
+      decides {b = circle.containsInterval (plainEnds i) (plainEnds o)} (simp (two-in i o v w))
+      (λ h. plain-inside v w (laws.contains-inside v' w' .0 h)) (λ H. laws.contains-inside v' w' .1 (inside-plain v w H))
 
   -- `interior_contains_interval` exactly when each place of the other lies strictly inside
   pub interior-contains-interval-places : Decides (interiorContainsInterval i o) (StrictlyInside i o)
   unfolding interiorContainsInterval
   interior-contains-interval-places =
-      decides {b = strictlyCovers (plainEnds i) (plainEnds o)} (simp (two-in i o v w))
-      (λ h p g q k. from-strict v q (held.strict-fwd v' w' q h (to-plain w q k)))
-      (λ H. held.strict-bwd v' w' at-PI (λ p g q h. to-strict v q (H p g q (from-plain w q h))))
+      decides {b = circle.interiorContainsInterval (plainEnds i) (plainEnds o)} (simp (two-in i o v w))
+      (λ h p g q k. from-strict v q (laws.strictly-contains-inside v' w' .0 h p g q (to-plain w q k)))
+      (λ H. laws.strictly-contains-inside v' w' .1 (λ p g q h. to-strict v q (H p g q (from-plain w q h))))
 
   -- `intersects` exactly when a place is shared, `interior_intersects` exactly when one strictly inside is
   pub intersects-places : Decides (intersects i o) (Meets i o)
   unfolding intersects
   intersects-places =
-      decides {b = meets (plainEnds i) (plainEnds o)} (simp (two-in i o v w))
-      (λ h. let m = held.meets-fwd v' w' at-PI h in (m .0, m .1, m .2, from-plain v (m .2) (m .3), from-plain w (m .2) (m .4)))
-      (λ m. held.meets-bwd v' w' (m .2) (to-plain v (m .2) (m .3)) (to-plain w (m .2) (m .4)))
+      decides {b = circle.intersects (plainEnds i) (plainEnds o)} (simp (two-in i o v w))
+      (λ h. let m = laws.meets-shared v' w' .0 h in (m .0, m .1, m .2, from-plain v (m .2) (m .3), from-plain w (m .2) (m .4)))
+      (λ m. laws.meets-shared v' w' .1 (meets-plain m))
 
   pub interior-intersects-places : Decides (interiorIntersects i o) (StrictlyMeets i o)
   unfolding interiorIntersects
   interior-intersects-places =
-      decides {b = strictlyMeets (plainEnds i) (plainEnds o)} (simp (two-in i o v w))
-      (λ h. let m = held.strict-meets-fwd v' w' at-PI h in (m .0, m .1, m .2, from-strict v (m .2) (m .3), from-plain w (m .2) (m .4)))
-      (λ m. held.strict-meets-bwd v' w' (m .2) (to-strict v (m .2) (m .3)) (to-plain w (m .2) (m .4)))
+      decides {b = circle.interiorIntersects (plainEnds i) (plainEnds o)} (simp (two-in i o v w))
+      (λ h. let m = laws.strictly-meets-shared v' w' .0 h in (m .0, m .1, m .2, from-strict v (m .2) (m .3), from-plain w (m .2) (m .4)))
+      (λ m. laws.strictly-meets-shared v' w' .1 (m .0, m .1, m .2, to-strict v (m .2) (m .3), to-plain w (m .2) (m .4)))
 
   -- `eq` exactly when both hold the same places
-  pub equal-places : Decides (equal i o) (Inside i o × Inside o i)
-  unfolding equal
+  pub equal-places : Decides (answers.eq i o) (Inside i o × Inside o i)
+  unfolding answers.eq
   equal-places =
-      decides {b = same (plainEnds i) (plainEnds o)} (simp (two-in i o v w))
-      (λ h. (
-        λ p g q k. from-plain v q (held.same-fwd v' w' q h .1 (to-plain w q k)),
-        λ p g q k. from-plain w q (held.same-fwd v' w' q h .0 (to-plain v q k)),
-      ))
-      (λ H. held.same-bwd v' w' at-PI (inside-plain v w (H .0)) (inside-plain w v (H .1)))
+      decides {b = circle.eq (plainEnds i) (plainEnds o)} (simp (two-in i o v w))
+      (λ h. (plain-inside v w (laws.same-places v' w' .0 h .0), plain-inside w v (laws.same-places v' w' .0 h .1)))
+      (λ H. laws.same-places v' w' .1 (inside-plain v w (H .0), inside-plain w v (H .1)))
 
   -- and then their numbers, zeros alike, are equal
   pub equal-numbers : Inside i o → Inside o i → plainEnds i ≡ plainEnds o
-  unfolding same
+  unfolding circle.eq
   equal-numbers H J =
-      let e : same (plainEnds i) (plainEnds o) ≡ true = held.same-bwd v' w' at-PI (inside-plain v w H) (inside-plain w v J) in
+      let e : circle.eq (plainEnds i) (plainEnds o) ≡ true = laws.same-places v' w' .1 (inside-plain v w H, inside-plain w v J) in
       let a = plain-same (plain (i .lo)) (plain (o .lo)) (held.lo-num v') (held.lo-num w') (plain-plain (i .lo)) (plain-plain (o .lo)) (and-l _ _ e) in
       let b = plain-same (plain (i .hi)) (plain (o .hi)) (held.hi-num v') (held.hi-num w') (plain-plain (i .hi)) (plain-plain (o .hi)) (and-r (eq (plain (i .lo)) (plain (o .lo))) _ e) in
       λ k. record { lo = a k; hi = b k }
 
   -- the union holds both operands, is valid, and where they share a place holds no other
-  pub union-is : union i o ≡ circleAnswer (hull (plainEnds i) (plainEnds o))
+  pub union-is : union i o ≡ circleAnswer (circle.union (plainEnds i) (plainEnds o))
   unfolding union
   union-is = simp (two-in i o v w)
 
   pub union-holds : Inside (union i o .value) i × Inside (union i o .value) o
   union-holds =
       rw union-is (
-        λ p g q h. held.hull-fwd v' w' q (or-of-l _ (holds (plainEnds o) p g) (to-plain v q h)),
-        λ p g q h. held.hull-fwd v' w' q (or-of-r (holds (plainEnds i) p g) _ (to-plain w q h)),
+        λ p g q h. laws.read-union-holds v' w' .0 p g q (to-plain v q h),
+        λ p g q h. laws.read-union-holds v' w' .1 p g q (to-plain w q h),
       )
 
   pub union-valid : Valid (union i o .value)
-  union-valid = rw union-is (held.hull-valid (plainEnds i) (plainEnds o) v' w')
+  union-valid = rw union-is (laws.read-union-valid v' w')
 
   pub union-only : Meets i o → (p : Float) (g : Bool) → Place p g → holds (union i o .value) p g ≡ true → (holds i p g ≡ true) ⊎ (holds o p g ≡ true)
-  union-only m p g q h =
-      let k : holds (hull (plainEnds i) (plainEnds o)) p g ≡ true = rw union-is at h in
-      go (or-at _ _ (held.hull-bwd v' w' q (held.meets-bwd v' w' (m .2) (to-plain v (m .2) (m .3)) (to-plain w (m .2) (m .4))) k))
+  union-only m p g q h = go (laws.read-union-only v' w' (meets-plain m) p g q (rw union-is at h))
     where
       go : (holds (plainEnds i) p g ≡ true) ⊎ (holds (plainEnds o) p g ≡ true) → (holds i p g ≡ true) ⊎ (holds o p g ≡ true)
       go (inl e) = inl (from-plain v q e)
       go (inr e) = inr (from-plain w q e)
 
   -- the intersection holds every common place, is valid, and lies within one operand
-  pub intersection-is : intersection i o ≡ circleAnswer (overlap (plainEnds i) (plainEnds o))
+  pub intersection-is : intersection i o ≡ circleAnswer (circle.intersection (plainEnds i) (plainEnds o))
   unfolding intersection
   intersection-is = simp (two-in i o v w)
 
   pub intersection-holds : (p : Float) (g : Bool) → Place p g → holds i p g ≡ true → holds o p g ≡ true → holds (intersection i o .value) p g ≡ true
-  intersection-holds p g q h k = rw intersection-is (held.overlap-fwd v' w' q (to-plain v q h) (to-plain w q k))
+  intersection-holds p g q h k = rw intersection-is (laws.read-intersection-holds v' w' p g q (to-plain v q h) (to-plain w q k))
 
   pub intersection-valid : Valid (intersection i o .value)
-  intersection-valid = rw intersection-is (held.overlap-valid (plainEnds i) (plainEnds o) v' w')
+  intersection-valid = rw intersection-is (laws.read-intersection-valid v' w')
 
   pub intersection-within : Inside i (intersection i o .value) ⊎ Inside o (intersection i o .value)
-  intersection-within = rw intersection-is (go (or-at _ _ (held.overlap-in v' w' at-PI)))
+  intersection-within = rw intersection-is (go (laws.read-intersection-within v' w'))
     where
       u : Interval
-      u = overlap (plainEnds i) (plainEnds o)
+      u = circle.intersection (plainEnds i) (plainEnds o)
 
-      z : Valid u
-      z = held.overlap-valid (plainEnds i) (plainEnds o) v' w'
-
-      go : (covers (plainEnds i) u ≡ true) ⊎ (covers (plainEnds o) u ≡ true) → Inside i u ⊎ Inside o u
-      go (inl h) = inl (λ p g q k. from-plain v q (held.covers-fwd v' z q h k))
-      go (inr h) = inr (λ p g q k. from-plain w q (held.covers-fwd w' z q h k))
+      go : Inside (plainEnds i) u ⊎ Inside (plainEnds o) u → Inside i u ⊎ Inside o u
+      go (inl H) = inl (λ p g q k. from-plain v q (H p g q k))
+      go (inr H) = inr (λ p g q k. from-plain w q (H p g q k))
 
 -- ---- growth by a point
 module _ (i : Interval) (x : Float) (v : Valid i) where
-  pub add-is : OnCircle x → add i x ≡ circleAnswer (grown (plainEnds i) (plain x))
+  pub add-is : OnCircle x → add i x ≡ circleAnswer (circle.add (plainEnds i) (plain x))
   unfolding add
   add-is q = simp (one-in i v, read-point x q)
-
-  -- refused with 3 it changes nothing
-  pub add-refused : onCircle x ≡ false → add i x ≡ record { refusal = number badPoint; value = i }
-  unfolding add
-  add-refused h = simp (one-in i v, point-out x h)
 
 -- ---- growth and pairs of points, by the place of each point, -PI read as PI
 module _ (i : Interval) (x : Float) (v : Valid i) (q : OnCircle x) where
   pub add-valid : Valid (add i x .value)
-  add-valid = rw (add-is i x v q) (laws.grown-valid (valid-plain i v) (circle-plain q))
+  add-valid = rw (add-is i x v q) (laws.read-add-valid (valid-plain i v) (circle-plain q))
 
   -- it holds all that was held, and the point
   pub add-holds : Inside (add i x .value) i × (holds (add i x .value) (seam x) false ≡ true)
   add-holds =
-      let t : holds (grown (plainEnds i) (plain x)) (plain (seam x)) false ≡ true = rw (seam-plain q) at (laws.grown-takes (valid-plain i v) (circle-plain q)) in (
-        λ p g s h. rw (add-is i x v q) (laws.grown-keeps (valid-plain i v) (circle-plain q) p g s (to-plain v s h)),
+      let t : holds (circle.add (plainEnds i) (plain x)) (plain (seam x)) false ≡ true = rw (seam-plain q) at (laws.add-takes (valid-plain i v) (circle-plain q)) in (
+        λ p g s h. rw (add-is i x v q) (laws.add-keeps (valid-plain i v) (circle-plain q) p g s (to-plain v s h)),
         sym (point-plain (add i x .value) add-valid (seam x) false (at-num (seam-place q))) ∙ rw (add-is i x v q) t,
       )
 
 module _ (x y : Float) (q : OnCircle x) (r : OnCircle y) where
   -- the interval from one place to the other, by the shorter way
-  pub pair-is : fromPointPair x y ≡ circleAnswer (pair (plain x) (plain y))
+  pub pair-is : fromPointPair x y ≡ circleAnswer (circle.fromPointPair (plain x) (plain y))
   unfolding fromPointPair firstRefusal
   pair-is = simp (read-point x q, read-point y r)
 
@@ -253,8 +249,8 @@ module _ (x y : Float) (q : OnCircle x) (r : OnCircle y) where
   pub from-point-pair-holds : (holds (fromPointPair x y .value) (seam x) false ≡ true) × (holds (fromPointPair x y .value) (seam y) false ≡ true)
   from-point-pair-holds =
       let t = laws.pair-holds (circle-plain q) (circle-plain r) in
-      let a : holds (pair (plain x) (plain y)) (plain (seam x)) false ≡ true = rw (seam-plain q) at (t .0) in
-      let b : holds (pair (plain x) (plain y)) (plain (seam y)) false ≡ true = rw (seam-plain r) at (t .1) in (
+      let a : holds (circle.fromPointPair (plain x) (plain y)) (plain (seam x)) false ≡ true = rw (seam-plain q) at (t .0) in
+      let b : holds (circle.fromPointPair (plain x) (plain y)) (plain (seam y)) false ≡ true = rw (seam-plain r) at (t .1) in (
         sym (point-plain (fromPointPair x y .value) from-point-pair-valid (seam x) false (at-num (seam-place q))) ∙ rw pair-is a,
         sym (point-plain (fromPointPair x y .value) from-point-pair-valid (seam y) false (at-num (seam-place r))) ∙ rw pair-is b,
       )

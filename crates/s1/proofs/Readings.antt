@@ -10,8 +10,9 @@ use Rattle.consts.specs.Constants.{PI, NEG-PI}
 use Rattle.consts.specs.Reading.{inReach}
 use Rattle.consts.proofs.Remainders.{pi-in-reach}
 use Rattle.s1.specs.declared.interval.Interval.{Interval}
-use Rattle.s1.specs.Circle.{valid}
-use Rattle.s1.specs.Reading.{usual, onCircle}
+use Rattle.s1.specs.Circle.{isValid}
+use Rattle.s1.specs.Devices.{usual}
+use Rattle.s1.specs.Reading.{onCircle}
 
 -- a double from -PI on is a number
 pub num-of : (x : Float) → fits binary64 x ≡ true → le NEG-PI x ≡ true → Num x ≡ true
@@ -23,8 +24,8 @@ unfolding onCircle
 circle-reach p f h = let a = and-l (le NEG-PI p) (le p PI) h in pi-in-reach p (num-of p f a) a (and-r (le NEG-PI p) (le p PI) h)
 
 -- and so is a valid interval
-pub valid-on : (i : Interval) → valid i ≡ true → (onCircle (i .lo) ≡ true) × (onCircle (i .hi) ≡ true)
-unfolding valid onCircle
+pub valid-on : (i : Interval) → isValid i ≡ true → (onCircle (i .lo) ≡ true) × (onCircle (i .hi) ≡ true)
+unfolding isValid onCircle
 valid-on i h =
     let a : le NEG-PI (i .lo) ≡ true = search (and-l, and-r) in
     let b : le (i .lo) PI ≡ true = search (and-l, and-r) in
@@ -32,12 +33,12 @@ valid-on i h =
     let d : le (i .hi) PI ≡ true = search (and-l, and-r) in
     (and-of a b, and-of c d)
 
-pub valid-reach : (i : Interval) → fits binary64 (i .lo) ≡ true → fits binary64 (i .hi) ≡ true → valid i ≡ true → inReach (i .lo) && inReach (i .hi) ≡ true
+pub valid-reach : (i : Interval) → fits binary64 (i .lo) ≡ true → fits binary64 (i .hi) ≡ true → isValid i ≡ true → inReach (i .lo) && inReach (i .hi) ≡ true
 valid-reach i f g h = and-of (circle-reach (i .lo) f (valid-on i h .0)) (circle-reach (i .hi) g (valid-on i h .1))
 
 -- a usual interval is valid
-pub usual-valid : (i : Interval) → fits binary64 (i .lo) ≡ true → fits binary64 (i .hi) ≡ true → usual i ≡ true → valid i ≡ true
-unfolding usual valid
+pub usual-valid : (i : Interval) → fits binary64 (i .lo) ≡ true → fits binary64 (i .hi) ≡ true → usual i ≡ true → isValid i ≡ true
+unfolding usual isValid
 usual-valid i f g h =
     let a : lt NEG-PI (i .lo) ≡ true = search (and-l, and-r) in
     let b : le (i .lo) PI ≡ true = search (and-l, and-r) in

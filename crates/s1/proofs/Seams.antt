@@ -6,25 +6,27 @@ use mathlib.Core.List.{List, [], _∷_}
 use Prim.Native.Nat.{ℕ}
 use lib.Dec.{leb, ltb, eqb}
 use lib.Ieee.{Float, binary64, lt, le, eq, fits, ofBits}
-use Rattle.order.specs.Rank.{In, here, there, rank, all, imp}
+use Rattle.order.proofs.Rank.{In, here, there, rank, all, imp}
 use Rattle.order.proofs.Ranks.{rank-lt, lt-rank, le-rank, eq-rank, all-at, imp-at, and-l, and-r}
 use Rattle.consts.specs.Constants.{PI, NEG-PI}
-use Rattle.consts.specs.Refusal.{number, accepted, notValid}
-use Rattle.consts.specs.Reading.{inReach, plain}
+use Rattle.consts.specs.Refusal.{number, accepted}
+use Rattle.consts.specs.Reading.{plain}
 use Rattle.s1.specs.declared.interval.Interval.{Interval}
-use Rattle.s1.specs.Circle.{validG, ends, FULL, EMPTY, normal, valid, swapped}
-use Rattle.s1.specs.Reading.{plainEnds, onCircle, readOne}
-use Rattle.s1.specs.Answers.{circleAnswer, emptyUnder, «new», invert, fromLine, toLine}
+use Rattle.s1.specs.Circle as circle
+use Rattle.s1.specs.Circle.{ends, FULL, EMPTY, isValid}
+use Rattle.s1.specs.Reading.{plainEnds, onCircle}
+use Rattle.s1.specs.Answers.{circleAnswer, «new», invert, fromLine, toLine}
 use Rattle.s1.specs.Places.{Valid}
 use Rattle.s1.proofs.Readings.{valid-on}
+use Rattle.s1.proofs.Forms.{validG}
 use Rattle.s1.proofs.Held.{num-PI, num-NEG, swap-valid}
 use Rattle.s1.proofs.Limits.{OnCircle, point-num, circle-plain, valid-plain, one-in, ends-in}
 
 pub full-valid : Valid FULL
-full-valid = record { lo-double = unfold fits ofBits in refl; hi-double = unfold fits ofBits in refl; is-valid = unfold valid le lt eq ofBits in refl }
+full-valid = record { lo-double = unfold fits ofBits in refl; hi-double = unfold fits ofBits in refl; is-valid = unfold isValid le lt eq ofBits in refl }
 
 pub empty-valid : Valid EMPTY
-empty-valid = record { lo-double = unfold fits ofBits in refl; hi-double = unfold fits ofBits in refl; is-valid = unfold valid le lt eq ofBits in refl }
+empty-valid = record { lo-double = unfold fits ofBits in refl; hi-double = unfold fits ofBits in refl; is-valid = unfold isValid le lt eq ofBits in refl }
 
 -- each end is chosen by a test of its own
 two-conds : (f : Interval → Bool) (s t : Bool) (x y u w : Float)
@@ -103,25 +105,25 @@ module _ (x y : Float) (q : OnCircle x) (r : OnCircle y) where
       imp-at _ _ (all-at 4 _ (imp-at _ _ (all-at 4 _ (imp-at _ _ (all-at 4 _ (all-at 4 _ t (rank l NEG-PI) (rank-lt in-N)) (rank l PI) (rank-lt in-P)) (simp ranks at neg-lt))
       (rank l x) (rank-lt in-a)) (simp ranks at (q .on-circle))) (rank l y) (rank-lt in-b)) (simp ranks at (r .on-circle))
 
-  normal-ok : valid (normal x y) ≡ true
-  unfolding normal valid
-  normal-ok = two-conds valid (westG eq NEG-PI PI x y) (eastG eq NEG-PI PI x y) PI x PI y ∙ simp ranks (at _ normal-all)
+  normal-ok : isValid (circle.«new» x y) ≡ true
+  unfolding circle.«new» isValid
+  normal-ok = two-conds isValid (westG eq NEG-PI PI x y) (eastG eq NEG-PI PI x y) PI x PI y ∙ simp ranks (at _ normal-all)
 
   abbrev once : Interval → Interval
   once n = ends (cond (le (n .lo) NEG-PI) PI (n .lo)) (n .hi)
 
-  once-ok : (n : Interval) → valid (once n) ≡ cond (le (n .lo) NEG-PI) (valid (ends PI (n .hi))) (valid n)
+  once-ok : (n : Interval) → isValid (once n) ≡ cond (le (n .lo) NEG-PI) (isValid (ends PI (n .hi))) (isValid n)
   once-ok n = go (le (n .lo) NEG-PI)
     where
-      go : (t : Bool) → valid (ends (cond t PI (n .lo)) (n .hi)) ≡ cond t (valid (ends PI (n .hi))) (valid n)
+      go : (t : Bool) → isValid (ends (cond t PI (n .lo)) (n .hi)) ≡ cond t (isValid (ends PI (n .hi))) (isValid n)
       go true = refl
       go false = refl
 
-  moved-ok : valid (once (normal x y)) ≡ true
-  unfolding normal valid
+  moved-ok : isValid (once (circle.«new» x y)) ≡ true
+  unfolding circle.«new» isValid
   moved-ok =
-      once-ok (normal x y)
-      ∙ two-conds (λ n. cond (le (n .lo) NEG-PI) (valid (ends PI (n .hi))) (valid n)) (westG eq NEG-PI PI x y) (eastG eq NEG-PI PI x y) PI x PI y
+      once-ok (circle.«new» x y)
+      ∙ two-conds (λ n. cond (le (n .lo) NEG-PI) (isValid (ends PI (n .hi))) (isValid n)) (westG eq NEG-PI PI x y) (eastG eq NEG-PI PI x y) PI x PI y
       ∙ simp ranks (at _ moved-all)
 
   -- ---- the ends are doubles
@@ -129,16 +131,16 @@ module _ (x y : Float) (q : OnCircle x) (r : OnCircle y) where
   chosen true z h = and-l _ _ num-PI
   chosen false z h = h
 
-  pub normal-valid : Valid (normal x y)
+  pub normal-valid : Valid (circle.«new» x y)
   normal-valid =
       record {
-        lo-double = unfold normal in chosen (westG eq NEG-PI PI x y) x (q .is-double);
-        hi-double = unfold normal in chosen (eastG eq NEG-PI PI x y) y (r .is-double);
+        lo-double = unfold circle.«new» in chosen (westG eq NEG-PI PI x y) x (q .is-double);
+        hi-double = unfold circle.«new» in chosen (eastG eq NEG-PI PI x y) y (r .is-double);
         is-valid = normal-ok;
       }
 
-  pub moved-valid : Valid (once (normal x y))
-  moved-valid = record { lo-double = chosen (le (normal x y .lo) NEG-PI) (normal x y .lo) (normal-valid .lo-double); hi-double = normal-valid .hi-double; is-valid = moved-ok }
+  pub moved-valid : Valid (once (circle.«new» x y))
+  moved-valid = record { lo-double = chosen (le (circle.«new» x y .lo) NEG-PI) (circle.«new» x y .lo) (normal-valid .lo-double); hi-double = normal-valid .hi-double; is-valid = moved-ok }
 
 -- a valid interval is left as it is
 not-and : (a b : Bool) → not (a && not b) ≡ true → a && not b ≡ false
@@ -146,15 +148,15 @@ not-and true true h = refl
 not-and true false h = absurd (false≢true h)
 not-and false b h = refl
 
-pub normal-stays : (i : Interval) → valid i ≡ true → normal (i .lo) (i .hi) ≡ i
-unfolding normal valid
+pub normal-stays : (i : Interval) → isValid i ≡ true → circle.«new» (i .lo) (i .hi) ≡ i
+unfolding circle.«new» isValid
 normal-stays i h =
     let a : not (eq (i .lo) NEG-PI && not (eq (i .hi) PI)) ≡ true = search (and-l, and-r) in
     let b : not (eq (i .hi) NEG-PI && not (eq (i .lo) PI)) ≡ true = search (and-l, and-r) in
     simp (not-and (eq (i .lo) NEG-PI) (eq (i .hi) PI) a, not-and (eq (i .hi) NEG-PI) (eq (i .lo) PI) b)
 
 -- ---- of the answers
-pub new-is : (x y : Float) → OnCircle x → OnCircle y → «new» x y ≡ circleAnswer (normal (plain x) (plain y))
+pub new-is : (x y : Float) → OnCircle x → OnCircle y → «new» x y ≡ circleAnswer (circle.«new» (plain x) (plain y))
 unfolding «new»
 new-is x y q r = simp (ends-in x y q r)
 
@@ -169,22 +171,18 @@ new-stays i v =
     ∙ ap circleAnswer (normal-stays (plainEnds i) (valid-plain i v .is-valid))
 
 -- `invert` swaps the ends, and the answer is valid
-pub invert-is : (i : Interval) → Valid i → invert i ≡ circleAnswer (swapped (plainEnds i))
+pub invert-is : (i : Interval) → Valid i → invert i ≡ circleAnswer (circle.invert (plainEnds i))
 unfolding invert
 invert-is i v = simp (one-in i v)
 
 pub invert-valid : (i : Interval) → Valid i → Valid (invert i .value)
 invert-valid i v = rw (invert-is i v) (swap-valid (plainEnds i) (plainEnds i) (valid-plain i v) (valid-plain i v))
 
--- a line interval whose ends make a valid circle interval becomes that one, and no other does
+-- a line interval whose ends make a valid circle interval becomes that one (no other does: Refusals)
 module _ (lo hi : Float) where
   pub from-line-is : Valid (ends lo hi) → fromLine (record { lo = lo; hi = hi }) ≡ circleAnswer (ends (plain lo) (plain hi))
   unfolding fromLine
   from-line-is v = simp (one-in (ends lo hi) v)
-
-  pub from-line-refused : inReach lo && inReach hi ≡ true → valid (ends lo hi) ≡ false → fromLine (record { lo = lo; hi = hi }) ≡ emptyUnder (number notValid)
-  unfolding fromLine readOne
-  from-line-refused h k = simp (h, k)
 
 pub to-line-is : (i : Interval) → Valid i → toLine i ≡ record { refusal = number accepted; value = record { lo = plain (i .lo); hi = plain (i .hi) } }
 unfolding toLine

@@ -15,7 +15,8 @@ use Rattle.r1.specs.Answers.{interval as lineInterval}
 use Rattle.s1.specs.declared.interval.Interval.{Interval}
 use Rattle.s1.specs.declared.interval.Answer.{Answer}
 use Rattle.s1.specs.Reading.{readOne, readEnds, readTwo, readPoint, readWithPoint, readWithMargin}
-use Rattle.s1.specs.Circle.{ends, EMPTY, distance, normal, pair, full, empty, inverted, swapped, middle, length, fast, has, covers, strictlyHas, strictlyCovers, meets, strictlyMeets, hull, overlap, widened, rest, opposite, farthest, approximates, grown, same}
+use Rattle.s1.specs.Circle as circle
+use Rattle.s1.specs.Circle.{ends, EMPTY}
 
 abbrev pub circleAnswer : Interval → Answer
 circleAnswer i = record { refusal = number accepted; value = i }
@@ -30,7 +31,7 @@ interval n i = given n (circleAnswer i) (emptyUnder n)
 
 -- ---- constructors and conversions
 unfoldable pub «new» : Float → Float → Answer
-«new» lo hi = let x = readEnds lo hi in interval (x .refusal) (normal (x .value .lo) (x .value .hi))
+«new» lo hi = let x = readEnds lo hi in interval (x .refusal) (circle.«new» (x .value .lo) (x .value .hi))
 
 unfoldable pub fromLine : Line → Answer
 fromLine l = let x = readOne (ends (l .lo) (l .hi)) in interval (x .refusal) (x .value)
@@ -42,13 +43,13 @@ unfoldable pub positiveDistance : Float → Float → Number
 positiveDistance a b =
     let x = readPoint a in
     let y = readPoint b in
-    told (firstRefusal (x .refusal) (y .refusal)) (plain (distance (x .value) (y .value)))
+    told (firstRefusal (x .refusal) (y .refusal)) (plain (circle.positiveDistance (x .value) (y .value)))
 
 unfoldable pub fromPointPair : Float → Float → Answer
 fromPointPair a b =
     let x = readPoint a in
     let y = readPoint b in
-    interval (firstRefusal (x .refusal) (y .refusal)) (pair (x .value) (y .value))
+    interval (firstRefusal (x .refusal) (y .refusal)) (circle.fromPointPair (x .value) (y .value))
 
 -- ---- an interval alone
 -- an accepted validity test says yes
@@ -56,79 +57,79 @@ unfoldable pub isValid : Interval → YesNo
 isValid i = test (readOne i .refusal) true
 
 unfoldable pub isFull : Interval → YesNo
-isFull i = let x = readOne i in test (x .refusal) (full (x .value))
+isFull i = let x = readOne i in test (x .refusal) (circle.isFull (x .value))
 
 unfoldable pub isEmpty : Interval → YesNo
-isEmpty i = let x = readOne i in test (x .refusal) (empty (x .value))
+isEmpty i = let x = readOne i in test (x .refusal) (circle.isEmpty (x .value))
 
 unfoldable pub isInverted : Interval → YesNo
-isInverted i = let x = readOne i in test (x .refusal) (inverted (x .value))
+isInverted i = let x = readOne i in test (x .refusal) (circle.isInverted (x .value))
 
 unfoldable pub invert : Interval → Answer
-invert i = let x = readOne i in interval (x .refusal) (swapped (x .value))
+invert i = let x = readOne i in interval (x .refusal) (circle.invert (x .value))
 
 unfoldable pub center : Interval → Number
-center i = let x = readOne i in told (x .refusal) (middle (x .value))
+center i = let x = readOne i in told (x .refusal) (circle.center (x .value))
 
 unfoldable pub len : Interval → Number
-len i = let x = readOne i in told (x .refusal) (plain (length (x .value)))
+len i = let x = readOne i in told (x .refusal) (plain (circle.len (x .value)))
 
 unfoldable pub complement : Interval → Answer
-complement i = let x = readOne i in interval (x .refusal) (rest (x .value))
+complement i = let x = readOne i in interval (x .refusal) (circle.complement (x .value))
 
 unfoldable pub complementCenter : Interval → Number
-complementCenter i = let x = readOne i in told (x .refusal) (opposite (x .value))
+complementCenter i = let x = readOne i in told (x .refusal) (circle.complementCenter (x .value))
 
 -- ---- an interval and a point, or a margin
 unfoldable pub fastContains : Interval → Float → YesNo
-fastContains i p = let x = readWithPoint i p in test (x .refusal) (fast (x .value) (x .number))
+fastContains i p = let x = readWithPoint i p in test (x .refusal) (circle.fastContains (x .value) (x .number))
 
 unfoldable pub contains : Interval → Float → YesNo
-contains i p = let x = readWithPoint i p in test (x .refusal) (has (x .value) (x .number))
+contains i p = let x = readWithPoint i p in test (x .refusal) (circle.contains (x .value) (x .number))
 
 unfoldable pub interiorContains : Interval → Float → YesNo
-interiorContains i p = let x = readWithPoint i p in test (x .refusal) (strictlyHas (x .value) (x .number))
+interiorContains i p = let x = readWithPoint i p in test (x .refusal) (circle.interiorContains (x .value) (x .number))
 
 unfoldable pub expanded : Interval → Float → Answer
-expanded i m = let x = readWithMargin i m in interval (x .refusal) (widened (x .value) (x .number))
+expanded i m = let x = readWithMargin i m in interval (x .refusal) (circle.expanded (x .value) (x .number))
 
 -- growth by a point; refused with 3 it hands the interval back as it came
 unfoldable pub add : Interval → Float → Answer
 add i p =
     let x = readOne i in
     let y = readPoint p in
-    given (x .refusal) (given (y .refusal) (circleAnswer (grown (x .value) (y .value))) (record { refusal = y .refusal; value = i })) (emptyUnder (x .refusal))
+    given (x .refusal) (given (y .refusal) (circleAnswer (circle.add (x .value) (y .value))) (record { refusal = y .refusal; value = i })) (emptyUnder (x .refusal))
 
 -- ---- two intervals
 unfoldable pub containsInterval : Interval → Interval → YesNo
-containsInterval i o = let x = readTwo i o in test (x .refusal) (covers (x .left) (x .right))
+containsInterval i o = let x = readTwo i o in test (x .refusal) (circle.containsInterval (x .left) (x .right))
 
 unfoldable pub interiorContainsInterval : Interval → Interval → YesNo
-interiorContainsInterval i o = let x = readTwo i o in test (x .refusal) (strictlyCovers (x .left) (x .right))
+interiorContainsInterval i o = let x = readTwo i o in test (x .refusal) (circle.interiorContainsInterval (x .left) (x .right))
 
 unfoldable pub intersects : Interval → Interval → YesNo
-intersects i o = let x = readTwo i o in test (x .refusal) (meets (x .left) (x .right))
+intersects i o = let x = readTwo i o in test (x .refusal) (circle.intersects (x .left) (x .right))
 
 unfoldable pub interiorIntersects : Interval → Interval → YesNo
-interiorIntersects i o = let x = readTwo i o in test (x .refusal) (strictlyMeets (x .left) (x .right))
+interiorIntersects i o = let x = readTwo i o in test (x .refusal) (circle.interiorIntersects (x .left) (x .right))
 
-unfoldable pub equal : Interval → Interval → YesNo
-equal i o = let x = readTwo i o in test (x .refusal) (same (x .left) (x .right))
+unfoldable pub eq : Interval → Interval → YesNo
+eq i o = let x = readTwo i o in test (x .refusal) (circle.eq (x .left) (x .right))
 
 unfoldable pub union : Interval → Interval → Answer
-union i o = let x = readTwo i o in interval (x .refusal) (hull (x .left) (x .right))
+union i o = let x = readTwo i o in interval (x .refusal) (circle.union (x .left) (x .right))
 
 unfoldable pub intersection : Interval → Interval → Answer
-intersection i o = let x = readTwo i o in interval (x .refusal) (overlap (x .left) (x .right))
+intersection i o = let x = readTwo i o in interval (x .refusal) (circle.intersection (x .left) (x .right))
 
-unfoldable pub directedHausdorff : Interval → Interval → Number
-directedHausdorff i o = let x = readTwo i o in told (x .refusal) (farthest (x .left) (x .right))
+unfoldable pub directedHausdorffDistance : Interval → Interval → Number
+directedHausdorffDistance i o = let x = readTwo i o in told (x .refusal) (circle.directedHausdorffDistance (x .left) (x .right))
 
 unfoldable pub approxEq : Interval → Interval → YesNo
-approxEq i o = let x = readTwo i o in test (x .refusal) (approximates (x .left) (x .right) EPSILON)
+approxEq i o = let x = readTwo i o in test (x .refusal) (circle.approxEqBy (x .left) (x .right) EPSILON)
 
 unfoldable pub approxEqBy : Interval → Interval → Float → YesNo
 approxEqBy i o e =
     let x = readTwo i o in
     let y = readNumber e (number badMargin) in
-    test (firstRefusal (x .refusal) (y .refusal)) (approximates (x .left) (x .right) (y .value))
+    test (firstRefusal (x .refusal) (y .refusal)) (circle.approxEqBy (x .left) (x .right) (y .value))

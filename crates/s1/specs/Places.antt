@@ -8,35 +8,24 @@ use lib.Ieee as Ieee
 use lib.Ieee.{Float, binary64, fits}
 use Rattle.consts.specs.Constants.{PI, NEG-PI}
 use Rattle.s1.specs.declared.interval.Interval.{Interval}
-use Rattle.s1.specs.Circle.{emptyG, fullG, valid}
+use Rattle.s1.specs.Circle.{isInverted, isValid}
+use Rattle.s1.specs.Reading.{onCircle}
 
--- over any comparisons, with the two ends of the range
-module _ {A : Type 0} (lt le eq : A → A → Bool) (NEG PI : A) where
-  -- a double above -PI up to PI; the gap just above a double from -PI on and below PI
-  abbrev pub placeG : A → Bool → Bool
-  placeG at gap = cond gap (le NEG at && lt at PI) (lt NEG at && le at PI)
-
-  -- the place is met going east from lo to hi, ends included; the gap above hi is not. Where lo > hi the way leads over the seam; EMPTY holds none
-  abbrev pub holdsG : A → A → A → Bool → Bool
-  holdsG lo hi at gap =
-      let below = cond gap (lt at hi) (le at hi) in
-      cond (lt hi lo) ((le lo at || below) && not (emptyG lt le eq NEG PI lo hi)) (le lo at && below)
-
-  -- it is held and is neither end; FULL has no ends
-  abbrev pub strictG : A → A → A → Bool → Bool
-  strictG lo hi at gap = holdsG lo hi at gap && (gap || not (eq at lo || eq at hi) || fullG lt le eq NEG PI lo hi)
-
--- ---- at doubles
+-- a double above -PI up to PI; the gap just above a double from -PI on and below PI
 abbrev pub place : Float → Bool → Bool
-place = placeG Ieee.lt Ieee.le Ieee.eq NEG-PI PI
+place at gap = cond gap (Ieee.le NEG-PI at && Ieee.lt at PI) (Ieee.lt NEG-PI at && Ieee.le at PI)
 
--- the interval holds the place
+-- the interval holds the place: it is met going east from lo to hi, ends included; the gap above hi is not. Where lo > hi the way leads over the seam;
+-- EMPTY, [PI, -PI], holds none
 abbrev pub holds : Interval → Float → Bool → Bool
-holds i = holdsG Ieee.lt Ieee.le Ieee.eq NEG-PI PI (i .lo) (i .hi)
+holds i at gap =
+    let below = cond gap (Ieee.lt at (i .hi)) (Ieee.le at (i .hi)) in
+    cond (isInverted i) ((Ieee.le (i .lo) at || below) && not (Ieee.eq (i .lo) PI && Ieee.eq (i .hi) NEG-PI)) (Ieee.le (i .lo) at && below)
 
--- the place lies strictly between the interval's ends
+-- the place lies strictly between the interval's ends: it is held and is neither end; FULL, [-PI, PI], has no ends
 abbrev pub strictlyHolds : Interval → Float → Bool → Bool
-strictlyHolds i = strictG Ieee.lt Ieee.le Ieee.eq NEG-PI PI (i .lo) (i .hi)
+strictlyHolds i at gap =
+    holds i at gap && (gap || not (Ieee.eq at (i .lo) || Ieee.eq at (i .hi)) || (Ieee.eq (i .lo) NEG-PI && Ieee.eq (i .hi) PI))
 
 -- a place
 pub record Place (at : Float) (gap : Bool) : Type 0 where
@@ -47,7 +36,12 @@ pub record Place (at : Float) (gap : Bool) : Type 0 where
 pub record Valid (i : Interval) : Type 0 where
   pub lo-double : fits binary64 (i .lo) ≡ true
   pub hi-double : fits binary64 (i .hi) ≡ true
-  pub is-valid : valid i ≡ true
+  pub is-valid : isValid i ≡ true
+
+-- a point of the circle, which is a double of size at most PI
+pub record OnCircle (p : Float) : Type 0 where
+  pub is-double : fits binary64 p ≡ true
+  pub on-circle : onCircle p ≡ true
 
 -- i holds each place that o holds
 abbrev pub Inside : Interval → Interval → Type 0

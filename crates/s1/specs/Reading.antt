@@ -1,30 +1,31 @@
 -- How the operands of a circle interval's operations are read: in document 01's order, the intervals from left to right, each with its zeros read,
 -- under 1 where a number is out of reach and under 2 where it is not valid; then points (3), then a margin or an error (4).
 -- Definitions only; the laws are in proofs/Readings.antt.
+use mathlib.Core.Path.{_≡_}
 use mathlib.Core.Bool.{Bool, _&&_, cond}
-use lib.Ieee.{Float, lt, le}
+use lib.Ieee.{Float, le}
 use Rattle.consts.specs.declared.answer.Number.{Number}
 use Rattle.consts.specs.Constants.{PI, NEG-PI}
 use Rattle.consts.specs.Refusal.{number, accepted, outOfReach, notValid, badPoint, badMargin, firstRefusal}
-use Rattle.consts.specs.Reading.{inReach, plain, readNumber}
+use Rattle.consts.specs.Reading.{inReach, plain, NoMinus, readNumber}
 use Rattle.s1.specs.declared.interval.Interval.{Interval}
 use Rattle.s1.specs.declared.reading.One.{One}
 use Rattle.s1.specs.declared.reading.Two.{Two}
 use Rattle.s1.specs.declared.reading.With.{With}
-use Rattle.s1.specs.Circle.{valid}
+use Rattle.s1.specs.Circle.{isValid}
 
 -- both ends with negative zero read as zero
 abbrev pub plainEnds : Interval → Interval
 plainEnds i = record { lo = plain (i .lo); hi = plain (i .hi) }
 
--- both ends are of size at most PI, and neither is -PI: enough to be valid (proofs/Readings.antt, `usual-valid`)
-unfoldable pub usual : Interval → Bool
-usual i = lt NEG-PI (i .lo) && le (i .lo) PI && lt NEG-PI (i .hi) && le (i .hi) PI
+-- neither end is a negative zero
+abbrev pub NoMinusEnds : Interval → Type 0
+NoMinusEnds i = NoMinus (i .lo) × NoMinus (i .hi)
 
 unfoldable pub readOne : Interval → One
 readOne i =
     record {
-      refusal = cond (inReach (i .lo) && inReach (i .hi)) (cond (valid i) (number accepted) (number notValid)) (number outOfReach);
+      refusal = cond (inReach (i .lo) && inReach (i .hi)) (cond (isValid i) (number accepted) (number notValid)) (number outOfReach);
       value = plainEnds i;
     }
 

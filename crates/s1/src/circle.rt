@@ -23,7 +23,7 @@ use consts::PI;
 use consts::TURN;
 ghost use mathlib.Core.Path.{_≡_};
 ghost use mathlib.Core.Bool.{cond};
-ghost use Rattle.s1.specs.Circle.{distance, normal, seam, pair, valid, full, empty, inverted, single, swapped, middle, length, fast, has, covers, strictlyHas, strictlyCovers, meets, insideMeets, strictlyMeets, hull, overlap, moved, widened, rest, opposite, within, farthest, nearEnds, approximates, grown, same};
+ghost use Rattle.s1.specs.Circle.{positiveDistance, «new», seam, fromPointPair, isValid, isFull, isEmpty, isInverted, isPoint, invert, center, len, fastContains, contains, containsInterval, interiorContains, interiorContainsInterval, intersects, insideMeets, interiorIntersects, union, intersection, moved, expanded, complement, complementCenter, distanceIfHeld, directedHausdorffDistance, nearEnds, approxEqBy, add, eq};
 
 const MINUS_ONE: f64 = -1.0;
 
@@ -35,15 +35,17 @@ fn pick(t: bool, a: f64, b: f64) -> f64
 }
 
 // Compute distance from a to b in [0,2π], in a numerically stable way.
+// Does the work of Interval::positive_distance on operands that have been read.
 pub fn positive_distance(a: f64, b: f64) -> f64
-    ensures { λ r. ⌜ r ≡ distance a b ⌝ }
+    ensures { λ r. ⌜ r ≡ positiveDistance a b ⌝ }
 {
     let d = b - a;
     if d >= 0.0 { d } else { (b + PI) - (a - PI) }
 }
 
+// Does the work of Interval::new on operands that have been read.
 pub fn new(lo: f64, hi: f64) -> Interval
-    ensures { λ r. ⌜ r ≡ normal lo hi ⌝ }
+    ensures { λ r. ⌜ r ≡ «new» lo hi ⌝ }
 {
     let l = pick((lo == NEG_PI) & !(hi == PI), PI, lo);
     let h = pick((hi == NEG_PI) & !(lo == PI), PI, hi);
@@ -57,20 +59,21 @@ fn at_seam(p: f64) -> f64
     pick(p == NEG_PI, PI, p)
 }
 
+// Does the work of Interval::from_point_pair on operands that have been read.
 pub fn from_point_pair(a: f64, b: f64) -> Interval
-    ensures { λ r. ⌜ r ≡ pair a b ⌝ }
+    ensures { λ r. ⌜ r ≡ fromPointPair a b ⌝ }
 {
     let p = at_seam(a);
     let q = at_seam(b);
     if positive_distance(p, q) <= PI {
-        Interval { lo: p, hi: q }
-    } else {
-        Interval { lo: q, hi: p }
+        return Interval { lo: p, hi: q };
     }
+    Interval { lo: q, hi: p }
 }
 
+// Does the work of Interval::is_valid on operands that have been read.
 pub fn is_valid(i: Interval) -> bool
-    ensures { λ r. ⌜ r ≡ valid i ⌝ }
+    ensures { λ r. ⌜ r ≡ isValid i ⌝ }
 {
     (NEG_PI <= i.lo)
         & (i.lo <= PI)
@@ -80,46 +83,52 @@ pub fn is_valid(i: Interval) -> bool
         & !((i.hi == NEG_PI) & !(i.lo == PI))
 }
 
+// Does the work of Interval::is_full on operands that have been read.
 pub fn is_full(i: Interval) -> bool
-    ensures { λ r. ⌜ r ≡ full i ⌝ }
+    ensures { λ r. ⌜ r ≡ isFull i ⌝ }
 {
     (i.lo == NEG_PI) & (i.hi == PI)
 }
 
+// Does the work of Interval::is_empty on operands that have been read.
 pub fn is_empty(i: Interval) -> bool
-    ensures { λ r. ⌜ r ≡ empty i ⌝ }
+    ensures { λ r. ⌜ r ≡ isEmpty i ⌝ }
 {
     (i.lo == PI) & (i.hi == NEG_PI)
 }
 
+// Does the work of Interval::is_inverted on operands that have been read.
 pub fn is_inverted(i: Interval) -> bool
-    ensures { λ r. ⌜ r ≡ inverted i ⌝ }
+    ensures { λ r. ⌜ r ≡ isInverted i ⌝ }
 {
     i.lo > i.hi
 }
 
 // Whether the interval contains a single point.
 fn is_point(i: Interval) -> bool
-    ensures { λ r. ⌜ r ≡ single i ⌝ }
+    ensures { λ r. ⌜ r ≡ isPoint i ⌝ }
 {
     i.lo == i.hi
 }
 
+// Does the work of Interval::invert on operands that have been read.
 pub fn invert(i: Interval) -> Interval
-    ensures { λ r. ⌜ r ≡ swapped i ⌝ }
+    ensures { λ r. ⌜ r ≡ invert i ⌝ }
 {
     Interval { lo: i.hi, hi: i.lo }
 }
 
+// Does the work of Interval::center on operands that have been read.
 pub fn center(i: Interval) -> f64
-    ensures { λ r. ⌜ r ≡ middle i ⌝ }
+    ensures { λ r. ⌜ r ≡ center i ⌝ }
 {
     let c = 0.5 * (i.lo + i.hi);
     consts::zero_read(pick(is_inverted(i), pick(c <= 0.0, c + PI, c - PI), c))
 }
 
+// Does the work of Interval::len on operands that have been read.
 pub fn len(i: Interval) -> f64
-    ensures { λ r. ⌜ r ≡ length i ⌝ }
+    ensures { λ r. ⌜ r ≡ len i ⌝ }
 {
     let l = i.hi - i.lo;
     if l >= 0.0 {
@@ -132,8 +141,9 @@ pub fn len(i: Interval) -> f64
     MINUS_ONE
 }
 
+// Does the work of Interval::fast_contains on operands that have been read.
 pub fn fast_contains(i: Interval, p: f64) -> bool
-    ensures { λ r. ⌜ r ≡ fast i p ⌝ }
+    ensures { λ r. ⌜ r ≡ fastContains i p ⌝ }
 {
     if is_inverted(i) {
         ((p >= i.lo) | (p <= i.hi)) & !is_empty(i)
@@ -142,14 +152,16 @@ pub fn fast_contains(i: Interval, p: f64) -> bool
     }
 }
 
+// Does the work of Interval::contains on operands that have been read.
 pub fn contains(i: Interval, p: f64) -> bool
-    ensures { λ r. ⌜ r ≡ has i p ⌝ }
+    ensures { λ r. ⌜ r ≡ contains i p ⌝ }
 {
     fast_contains(i, at_seam(p))
 }
 
+// Does the work of Interval::contains_interval on operands that have been read.
 pub fn contains_interval(i: Interval, other: Interval) -> bool
-    ensures { λ r. ⌜ r ≡ covers i other ⌝ }
+    ensures { λ r. ⌜ r ≡ containsInterval i other ⌝ }
 {
     if is_inverted(i) {
         if is_inverted(other) {
@@ -164,8 +176,9 @@ pub fn contains_interval(i: Interval, other: Interval) -> bool
     }
 }
 
+// Does the work of Interval::interior_contains on operands that have been read.
 pub fn interior_contains(i: Interval, p: f64) -> bool
-    ensures { λ r. ⌜ r ≡ strictlyHas i p ⌝ }
+    ensures { λ r. ⌜ r ≡ interiorContains i p ⌝ }
 {
     let q = at_seam(p);
     if is_inverted(i) {
@@ -175,8 +188,9 @@ pub fn interior_contains(i: Interval, p: f64) -> bool
     }
 }
 
+// Does the work of Interval::interior_contains_interval on operands that have been read.
 pub fn interior_contains_interval(i: Interval, other: Interval) -> bool
-    ensures { λ r. ⌜ r ≡ strictlyCovers i other ⌝ }
+    ensures { λ r. ⌜ r ≡ interiorContainsInterval i other ⌝ }
 {
     if is_inverted(i) {
         if is_inverted(other) {
@@ -191,8 +205,9 @@ pub fn interior_contains_interval(i: Interval, other: Interval) -> bool
     }
 }
 
+// Does the work of Interval::intersects on operands that have been read.
 pub fn intersects(i: Interval, other: Interval) -> bool
-    ensures { λ r. ⌜ r ≡ meets i other ⌝ }
+    ensures { λ r. ⌜ r ≡ intersects i other ⌝ }
 {
     if is_empty(i) | is_empty(other) {
         false
@@ -205,7 +220,7 @@ pub fn intersects(i: Interval, other: Interval) -> bool
     }
 }
 
-// The same of two that are not empty, the first more than a point.
+// Whether the interior of i meets other, where neither is empty and i is more than a point.
 fn interior_meets(i: Interval, other: Interval) -> bool
     ensures { λ r. ⌜ r ≡ insideMeets i other ⌝ }
 {
@@ -218,8 +233,9 @@ fn interior_meets(i: Interval, other: Interval) -> bool
     }
 }
 
+// Does the work of Interval::interior_intersects on operands that have been read.
 pub fn interior_intersects(i: Interval, other: Interval) -> bool
-    ensures { λ r. ⌜ r ≡ strictlyMeets i other ⌝ }
+    ensures { λ r. ⌜ r ≡ interiorIntersects i other ⌝ }
 {
     if is_empty(i) | is_empty(other) | is_point(i) {
         false
@@ -228,49 +244,52 @@ pub fn interior_intersects(i: Interval, other: Interval) -> bool
     }
 }
 
+// Does the work of Interval::union on operands that have been read.
 pub fn union(i: Interval, other: Interval) -> Interval
-    ensures { λ r. ⌜ r ≡ hull i other ⌝ }
+    ensures { λ r. ⌜ r ≡ union i other ⌝ }
 {
     if is_empty(other) {
-        i
-    } else if fast_contains(i, other.lo) {
+        return i;
+    }
+    if fast_contains(i, other.lo) {
         if fast_contains(i, other.hi) {
             // Either other ⊂ i, or i ∪ other is the full interval.
             if contains_interval(i, other) {
-                i
-            } else {
-                Interval::FULL
+                return i;
             }
-        } else {
-            Interval {
-                lo: i.lo,
-                hi: other.hi,
-            }
+            return Interval::FULL;
         }
-    } else if fast_contains(i, other.hi) {
-        Interval {
-            lo: other.lo,
-            hi: i.hi,
-        }
-    } else if is_empty(i) | fast_contains(other, i.lo) {
-        // Neither endpoint of other is in i. Either i ⊂ other, or i and other are disjoint.
-        other
-    } else if positive_distance(other.hi, i.lo) < positive_distance(i.hi, other.lo) {
-        // This is the only hard case where we need to find the closest pair of endpoints.
-        Interval {
-            lo: other.lo,
-            hi: i.hi,
-        }
-    } else {
-        Interval {
+        return Interval {
             lo: i.lo,
             hi: other.hi,
-        }
+        };
+    }
+    if fast_contains(i, other.hi) {
+        return Interval {
+            lo: other.lo,
+            hi: i.hi,
+        };
+    }
+    if is_empty(i) | fast_contains(other, i.lo) {
+        // Neither endpoint of other is in i. Either i ⊂ other, or i and other are disjoint.
+        return other;
+    }
+    if positive_distance(other.hi, i.lo) < positive_distance(i.hi, other.lo) {
+        // This is the only hard case where we need to find the closest pair of endpoints.
+        return Interval {
+            lo: other.lo,
+            hi: i.hi,
+        };
+    }
+    Interval {
+        lo: i.lo,
+        hi: other.hi,
     }
 }
 
+// Does the work of Interval::intersection on operands that have been read.
 pub fn intersection(i: Interval, other: Interval) -> Interval
-    ensures { λ r. ⌜ r ≡ overlap i other ⌝ }
+    ensures { λ r. ⌜ r ≡ intersection i other ⌝ }
 {
     if is_empty(other) {
         return Interval::EMPTY;
@@ -280,24 +299,27 @@ pub fn intersection(i: Interval, other: Interval) -> Interval
             // Either other ⊂ i, or i and other intersect twice. Neither are empty. In the second case
             // one of them is inverted, and the one that is shorter, by the rounded length, covers the
             // two disjoint pieces.
-            if len(other) < len(i) { other } else { i }
-        } else {
-            Interval {
-                lo: other.lo,
-                hi: i.hi,
+            if len(other) < len(i) {
+                return other;
             }
+            return i;
         }
-    } else if fast_contains(i, other.hi) {
-        Interval {
+        return Interval {
+            lo: other.lo,
+            hi: i.hi,
+        };
+    }
+    if fast_contains(i, other.hi) {
+        return Interval {
             lo: i.lo,
             hi: other.hi,
-        }
-    } else if fast_contains(other, i.lo) {
-        // Neither endpoint of other is in i. Either i ⊂ other, or i and other are disjoint.
-        i
-    } else {
-        Interval::EMPTY
+        };
     }
+    if fast_contains(other, i.lo) {
+        // Neither endpoint of other is in i. Either i ⊂ other, or i and other are disjoint.
+        return i;
+    }
+    Interval::EMPTY
 }
 
 // Both ends moved out by margin, and brought back into the range.
@@ -311,8 +333,9 @@ fn move_ends(i: Interval, margin: f64) -> Interval
     Interval { lo: l, hi: r.hi }
 }
 
+// Does the work of Interval::expanded on operands that have been read.
 pub fn expanded(i: Interval, margin: f64) -> Interval
-    ensures { λ r. ⌜ r ≡ widened i margin ⌝ }
+    ensures { λ r. ⌜ r ≡ expanded i margin ⌝ }
 {
     if margin >= 0.0 {
         if is_empty(i) {
@@ -336,19 +359,20 @@ pub fn expanded(i: Interval, margin: f64) -> Interval
     move_ends(i, margin)
 }
 
+// Does the work of Interval::complement on operands that have been read.
 pub fn complement(i: Interval) -> Interval
-    ensures { λ r. ⌜ r ≡ rest i ⌝ }
+    ensures { λ r. ⌜ r ≡ complement i ⌝ }
 {
     if is_point(i) {
         // Singleton. The interval just contains a single point.
-        Interval::FULL
-    } else {
-        Interval { lo: i.hi, hi: i.lo }
+        return Interval::FULL;
     }
+    Interval { lo: i.hi, hi: i.lo }
 }
 
+// Does the work of Interval::complement_center on operands that have been read.
 pub fn complement_center(i: Interval) -> f64
-    ensures { λ r. ⌜ r ≡ opposite i ⌝ }
+    ensures { λ r. ⌜ r ≡ complementCenter i ⌝ }
 {
     if is_point(i) {
         consts::zero_read(pick(i.hi <= 0.0, i.hi + PI, i.hi - PI))
@@ -359,13 +383,14 @@ pub fn complement_center(i: Interval) -> f64
 
 // d where the interval from a to b contains p, else 0.
 fn reach_to(a: f64, b: f64, p: f64, d: f64) -> f64
-    ensures { λ r. ⌜ r ≡ within a b p d ⌝ }
+    ensures { λ r. ⌜ r ≡ distanceIfHeld a b p d ⌝ }
 {
     pick(contains(new(a, b), p), d, 0.0)
 }
 
+// Does the work of Interval::directed_hausdorff_distance on operands that have been read.
 pub fn directed_hausdorff_distance(i: Interval, y: Interval) -> f64
-    ensures { λ r. ⌜ r ≡ farthest i y ⌝ }
+    ensures { λ r. ⌜ r ≡ directedHausdorffDistance i y ⌝ }
 {
     if contains_interval(y, i) {
         return 0.0;
@@ -394,8 +419,9 @@ fn ends_near(i: Interval, other: Interval, max_error: f64) -> bool
         & (order::abs(len(i) - len(other)) <= 2.0 * max_error)
 }
 
+// Does the work of Interval::approx_eq_by on operands that have been read.
 pub fn approx_eq_by(i: Interval, other: Interval, max_error: f64) -> bool
-    ensures { λ r. ⌜ r ≡ approximates i other «max_error» ⌝ }
+    ensures { λ r. ⌜ r ≡ approxEqBy i other «max_error» ⌝ }
 {
     if is_empty(i) {
         return len(other) < 2.0 * max_error;
@@ -412,8 +438,9 @@ pub fn approx_eq_by(i: Interval, other: Interval, max_error: f64) -> bool
     ends_near(i, other, max_error)
 }
 
+// Does the work of Interval::add on operands that have been read.
 pub fn add(i: Interval, point: f64) -> Interval
-    ensures { λ r. ⌜ r ≡ grown i point ⌝ }
+    ensures { λ r. ⌜ r ≡ add i point ⌝ }
 {
     let p = at_seam(point);
     if fast_contains(i, p) {
@@ -428,8 +455,9 @@ pub fn add(i: Interval, point: f64) -> Interval
     Interval { lo: i.lo, hi: p }
 }
 
+// Does the work of Interval::eq on operands that have been read.
 pub fn eq(i: Interval, other: Interval) -> bool
-    ensures { λ r. ⌜ r ≡ same i other ⌝ }
+    ensures { λ r. ⌜ r ≡ eq i other ⌝ }
 {
     (i.lo == other.lo) & (i.hi == other.hi)
 }

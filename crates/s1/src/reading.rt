@@ -11,7 +11,8 @@ use consts::Number;
 use consts::OUT_OF_REACH;
 use consts::PI;
 ghost use mathlib.Core.Path.{_≡_};
-ghost use Rattle.s1.specs.Reading.{usual, readOne, readEnds, readTwo, onCircle, readPoint, readWithPoint, readWithMargin};
+ghost use Rattle.s1.specs.Devices.{usual};
+ghost use Rattle.s1.specs.Reading.{readOne, readEnds, readTwo, onCircle, readPoint, readWithPoint, readWithMargin};
 
 // An interval as it is read.
 pub struct One {
@@ -59,6 +60,8 @@ fn refusal_of(i: Interval) -> u8
 }
 
 // Reads an interval: every operation on one comes through here.
+// Laws: Limits.one-in, Limits.holds-plain; Readings.valid-reach; Promises.refusals-alone.
+// Ruled out: of [-PI, 0]: under 0; of [0, NaN]: under 2.
 pub fn read_one(i: Interval) -> One
     ensures { λ r. ⌜ r ≡ readOne i ⌝ }
 {
@@ -90,6 +93,8 @@ fn refusal_of_ends(lo: f64, hi: f64) -> u8
 }
 
 // Reads the ends of an interval that is to be made, before the seam is normalised.
+// Laws: Limits.ends-in; Promises.refusals-new.
+// Ruled out: of -PI and 0: under 2, as an interval would be; of 0 and 4: under 0.
 pub fn read_ends(lo: f64, hi: f64) -> One
     ensures { λ r. ⌜ r ≡ readEnds lo hi ⌝ }
 {
@@ -101,6 +106,9 @@ pub fn read_ends(lo: f64, hi: f64) -> One
 }
 
 // Reads two intervals, the left one first.
+// Laws: Limits.two-in; Promises.refusals-two.
+// Ruled out: of [0, 1] and [2, 3]: the second on the left; of [-PI, 0] and [NaN, 0]: under 1 (the
+// left one decides: 2).
 pub fn read_two(i: Interval, o: Interval) -> Two
     ensures { λ r. ⌜ r ≡ readTwo i o ⌝ }
 {
@@ -117,6 +125,8 @@ pub fn read_two(i: Interval, o: Interval) -> Two
 }
 
 // Reads a point of the circle.
+// Laws: Limits.read-point; Promises.refusals-from-point-pair.
+// Ruled out: of PI: under 3; of 4: under 0.
 pub fn read_point(p: f64) -> Number
     ensures { λ r. ⌜ r ≡ readPoint p ⌝ }
 {
@@ -135,6 +145,8 @@ pub fn read_point(p: f64) -> Number
 }
 
 // Reads an interval, then a point.
+// Laws: Limits.point-in; Promises.refusals-with-point.
+// Ruled out: of [0, 1] and 4: under 0; of [-PI, 0] and 4: under 3.
 pub fn read_with_point(i: Interval, p: f64) -> With
     ensures { λ r. ⌜ r ≡ readWithPoint i p ⌝ }
 {
@@ -150,6 +162,8 @@ pub fn read_with_point(i: Interval, p: f64) -> With
 }
 
 // Reads an interval, then a margin.
+// Laws: Limits.margin-in; Promises.refusals-expanded.
+// Ruled out: of [0, 1] and 4: under 3; of [0, 1] and infinity: under 0.
 pub fn read_with_margin(i: Interval, margin: f64) -> With
     ensures { λ r. ⌜ r ≡ readWithMargin i margin ⌝ }
 {

@@ -53,19 +53,19 @@ no-seam false false c h = refl
 
 module _ {i : Circle} (v : LngValid i) where
   -- an interval that holds a place is not EMPTY
-  pub lng-filled : (at : Float) (g : Bool) → lngHolds i at g ≡ true → circle.empty i ≡ false
-  unfolding circle.empty
-  lng-filled at g h = go (circle.empty i) refl
+  pub lng-filled : (at : Float) (g : Bool) → lngHolds i at g ≡ true → circle.isEmpty i ≡ false
+  unfolding circle.isEmpty
+  lng-filled at g h = go (circle.isEmpty i) refl
     where
-      go : (t : Bool) → circle.empty i ≡ t → circle.empty i ≡ false
+      go : (t : Bool) → circle.isEmpty i ≡ t → circle.isEmpty i ≡ false
       go false e = e
       go true e =
           let d = empty-inverted (i .lo) (i .hi) (lng-nums v .0) (lng-nums v .1) (and-l (eq (i .lo) PI) (eq (i .hi) NEG-PI) e) (and-r (eq (i .lo) PI) (eq (i .hi) NEG-PI) e) in
           absurd (false≢true (sym (no-place (le (i .lo) at || cond g (lt at (i .hi)) (le at (i .hi)))) ∙ (simp (d, e) at h)))
 
   -- one that is not EMPTY holds its eastern end, which is a place
-  pub lng-hi : circle.empty i ≡ false → LngPlace (i .hi) false × (lngHolds i (i .hi) false ≡ true)
-  unfolding circle.empty circle.valid
+  pub lng-hi : circle.isEmpty i ≡ false → LngPlace (i .hi) false × (lngHolds i (i .hi) false ≡ true)
+  unfolding circle.isEmpty circle.isValid
   lng-hi h =
       let n = lng-nums v .0 in
       let m = lng-nums v .1 in
@@ -84,11 +84,11 @@ module _ {i : Circle} (v : LngValid i) where
 -- ---- the place of a point
 module _ {p : Float} (q : OnCircle p) where
   -- a single point is stored at its place
-  pub normal-seam : circle.normal p p ≡ circle.ends (seam p) (seam p)
-  unfolding circle.normal seam
+  pub normal-seam : circle.«new» p p ≡ circle.ends (seam p) (seam p)
+  unfolding circle.«new» seam
   normal-seam = go (eq p NEG-PI) (eq p PI) refl refl
     where
-      go : (s t : Bool) → eq p NEG-PI ≡ s → eq p PI ≡ t → circle.normal p p ≡ circle.ends (seam p) (seam p)
+      go : (s t : Bool) → eq p NEG-PI ≡ s → eq p PI ≡ t → circle.«new» p p ≡ circle.ends (seam p) (seam p)
       go false t e d = simp e
       go true false e d = simp (e, d)
       go true true e d = absurd (two-ends p (point-num q) e d)
@@ -121,7 +121,7 @@ empty-holds at g h = false≢true (sym (no-place (le PI at || cond g (lt at NEG-
 -- ---- a single point
 module _ {at : Float} (q : LngPlace at false) where
   pub lone-valid : LngValid (circle.ends at at)
-  unfolding circle.valid
+  unfolding circle.isValid
   lone-valid =
       let n = lng-place-num q in
       let a = and-l (lt NEG-PI at) (le at PI) (q .is-place) in
@@ -129,8 +129,8 @@ module _ {at : Float} (q : LngPlace at false) where
       let l = lt-le NEG-PI at a in
       record { lo-double = q .is-double; hi-double = q .is-double; is-valid = simp (l, b, above NEG-PI at (pi-nums .0) n a) }
 
-  pub lone-filled : circle.empty (circle.ends at at) ≡ false
-  unfolding circle.empty
+  pub lone-filled : circle.isEmpty (circle.ends at at) ≡ false
+  unfolding circle.isEmpty
   lone-filled =
       let a = and-l (lt NEG-PI at) (le at PI) (q .is-place) in
       simp (above NEG-PI at (pi-nums .0) (lng-place-num q) a) (no-place (eq at PI))

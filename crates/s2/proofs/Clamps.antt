@@ -7,7 +7,7 @@ use Prim.Native.Nat.{ℕ, _*_}
 use native.Mathlib.Nat.{mul-comm}
 use lib.Ieee.{Float, binary64, ofBits, fits, isNan, lt, le, eq, unlike, round, up, down}
 use Rattle.order.specs.Key.{Num, Real}
-use Rattle.order.specs.Choice.{smaller, larger}
+use Rattle.order.specs.Choice.{min, max}
 use Rattle.order.proofs.Ranks.{and-l, and-r, and-of, or-of-r}
 use Rattle.order.proofs.Facts.{le-refl, le-trans, not-lt}
 use Rattle.order.proofs.Bounds.{Between, between, add-between, sub-between, mul-between, from, under}
@@ -20,9 +20,9 @@ use Rattle.consts.specs.Reading.{inReach, plain, LEAST, MOST}
 use Rattle.consts.proofs.Readings.{plain-num, plain-le, le-plain}
 use Rattle.r1.specs.declared.interval.Interval.{Interval as Line}
 use Rattle.r1.specs.Line as line
-use Rattle.r1.specs.Places.{Place as LatPlace}
+use Rattle.r1.specs.Places.{holds as latHolds, Place as LatPlace}
 use Rattle.r1.proofs.Readings.{place-num}
-use Rattle.s2.specs.Rect.{NORTH, SOUTH, LATITUDES, latitude}
+use Rattle.s2.specs.Zone.{NORTH, SOUTH, LATITUDES, latitude}
 use Rattle.s2.proofs.Readings.{poles, latitude-between}
 use Rattle.s2.proofs.Latitudes.{South, Range, range-reach, south-of, north-of, filled}
 
@@ -111,46 +111,46 @@ pole-nums : (Num SOUTH ≡ true) × (Num NORTH ≡ true)
 pole-nums = (real-num SOUTH (poles .0), real-num NORTH (poles .1))
 
 module _ (x y : Float) (n : Num x ≡ true) (m : Num y ≡ true) (p : le x NORTH ≡ true) (q : le SOUTH y ≡ true) where
-  lo-in : South (larger x SOUTH)
+  lo-in : South (max x SOUTH)
   unfolding latitude
   lo-in =
-      south-of (unfold larger in either (λ (z : Float). fits binary64 z ≡ true) (lt x SOUTH) (num-fits SOUTH (pole-nums .0)) (num-fits x n))
+      south-of (unfold max in either (λ (z : Float). fits binary64 z ≡ true) (lt x SOUTH) (num-fits SOUTH (pole-nums .0)) (num-fits x n))
       (and-of
       (le-larger x SOUTH SOUTH n (pole-nums .0) (pole-nums .0) ∙ or-of-r (le SOUTH x) _ (le-refl SOUTH (pole-nums .0)))
       (larger-le x SOUTH NORTH n (pole-nums .0) (pole-nums .1) ∙ and-of p poles-apart))
 
-  hi-in : South (smaller y NORTH)
+  hi-in : South (min y NORTH)
   unfolding latitude
   hi-in =
-      south-of (unfold smaller in either (λ (z : Float). fits binary64 z ≡ true) (lt NORTH y) (num-fits NORTH (pole-nums .1)) (num-fits y m))
+      south-of (unfold min in either (λ (z : Float). fits binary64 z ≡ true) (lt NORTH y) (num-fits NORTH (pole-nums .1)) (num-fits y m))
       (and-of
       (le-smaller y NORTH SOUTH m (pole-nums .1) (pole-nums .0) ∙ and-of q poles-apart)
       (smaller-le y NORTH NORTH m (pole-nums .1) (pole-nums .1) ∙ or-of-r (le y NORTH) _ (le-refl NORTH (pole-nums .1))))
 
-  pub clamp-range : Range (line.overlap (line.ends x y) LATITUDES)
-  unfolding line.overlap
+  pub clamp-range : Range (line.intersection (line.ends x y) LATITUDES)
+  unfolding line.intersection
   clamp-range = record { south = lo-in; north = north-of hi-in }
 
-  pub clamp-filled : le x y ≡ true → line.empty (line.overlap (line.ends x y) LATITUDES) ≡ false
-  unfolding line.overlap line.holds
+  pub clamp-filled : le x y ≡ true → line.isEmpty (line.intersection (line.ends x y) LATITUDES) ≡ false
+  unfolding line.intersection latHolds
   clamp-filled h =
       let u = place-num (lo-in .is-place) in
       let w = place-num (hi-in .is-place) in
       let s = le-smaller y NORTH SOUTH m (pole-nums .1) (pole-nums .0) ∙ and-of q poles-apart in
       let t = le-smaller y NORTH x m (pole-nums .1) n ∙ and-of h p in
-      filled (range-reach clamp-range) (lo-in .is-place) (and-of (le-refl (larger x SOUTH) u) (larger-le x SOUTH (smaller y NORTH) n (pole-nums .0) w ∙ and-of t s))
+      filled (range-reach clamp-range) (lo-in .is-place) (and-of (le-refl (max x SOUTH) u) (larger-le x SOUTH (min y NORTH) n (pole-nums .0) w ∙ and-of t s))
 
 -- ---- the whole
 pub record Clamped (i : Line) : Type 0 where
   pub in-range : Range i
-  pub not-empty : line.empty i ≡ false
+  pub not-empty : line.isEmpty i ≡ false
 
 module _ {i : Line} (a : Range i) (m : Float) (q : LatPlace m) where
   abbrev wide : Line
   wide = line.ends (plain (Ieee.sub binary64 (i .lo) m)) (plain (Ieee.add binary64 (i .hi) m))
 
-  moved : line.empty i ≡ false → line.empty wide ≡ false → Clamped (line.overlap wide LATITUDES)
-  unfolding line.empty latitude
+  moved : line.isEmpty i ≡ false → line.isEmpty wide ≡ false → Clamped (line.intersection wide LATITUDES)
+  unfolding line.isEmpty latitude
   moved e d =
       let nl = place-num (a .south .is-place) in
       let nh = place-num (a .north .is-place) in
@@ -168,11 +168,11 @@ module _ {i : Line} (a : Range i) (m : Float) (q : LatPlace m) where
       record { in-range = clamp-range (wide .lo) (wide .hi) pu pw p s; not-empty = clamp-filled (wide .lo) (wide .hi) pu pw p s h }
 
   -- where the widened interval is not empty, what lies from pole to pole is not empty either
-  pub clamped : line.empty (line.widened i m) ≡ false → Clamped (line.overlap (line.widened i m) LATITUDES)
-  unfolding line.widened
-  clamped h = go (line.empty i) refl h
+  pub clamped : line.isEmpty (line.expanded i m) ≡ false → Clamped (line.intersection (line.expanded i m) LATITUDES)
+  unfolding line.expanded
+  clamped h = go (line.isEmpty i) refl h
     where
-      go : (t : Bool) → line.empty i ≡ t → line.empty (cond t i wide) ≡ false → Clamped (line.overlap (cond t i wide) LATITUDES)
+      go : (t : Bool) → line.isEmpty i ≡ t → line.isEmpty (cond t i wide) ≡ false → Clamped (line.intersection (cond t i wide) LATITUDES)
       go true e h = absurd (false≢true (sym h ∙ e))
       go false e h = moved e h
 

@@ -15,7 +15,8 @@ use Rattle.s1.proofs.Limits.{point-num}
 use Rattle.consts.proofs.Readings.{plain-eq}
 use Rattle.s2.specs.declared.latlng.LatLng.{LatLng}
 use Rattle.s2.specs.declared.rect.Rect.{Rect}
-use Rattle.s2.specs.Rect.{at, box, validLatitudes, valid, spot, around, empty, widened, closure}
+use Rattle.s2.specs.Zone as zone
+use Rattle.s2.specs.Zone.{at, box, validLatitudes, isValid, isEmpty, expanded}
 use Rattle.s2.specs.Reading.{rectInReach, asRead}
 use Rattle.s2.specs.Answers.{rectAnswer, emptyUnder, fromLatLng, fromCenterSize, polarClosure, add}
 use Rattle.s2.specs.Places.{Valid, ValidPoint, Margins}
@@ -26,31 +27,31 @@ use Rattle.s2.proofs.Valid.{point-lng}
 
 -- ---- a latlng at longitude -PI is stored [PI, PI]
 pub seam-stored : (p : LatLng) → ValidPoint p → eq (p .lng) NEG-PI ≡ true → fromLatLng p ≡ rectAnswer (box (line.ends (plain (p .lat)) (plain (p .lat))) (circle.ends PI PI))
-unfolding spot
+unfolding zone.fromLatLng
 seam-stored p q e =
     let s : seam (plain (p .lng)) ≡ PI = unfold seam in ap (λ (t : Bool). cond t PI (plain (p .lng))) (plain-eq (p .lng) NEG-PI (point-num (point-lng q)) (pi-nums .0) ∙ e) in
     from-latlng-is p q ∙ rw (normal-seam (point-lng (valid-point-plain q)), s)
 
 -- the crate's [-PI, -PI] is not valid
-pub crate-seam : circle.valid (circle.ends NEG-PI NEG-PI) ≡ false
-unfolding circle.valid ofBits le lt eq
+pub crate-seam : circle.isValid (circle.ends NEG-PI NEG-PI) ≡ false
+unfolding circle.isValid ofBits le lt eq
 crate-seam = refl
 
 -- ---- `from_center_size` starts there too: it is that rectangle, widened by half the size
 pub center-size-starts : (p s : LatLng) → ValidPoint p → Margins s
-    → fromCenterSize p s ≡ rectAnswer (widened (fromLatLng p .value) (at (Ieee.mul binary64 (plain (s .lat)) HALF) (Ieee.mul binary64 (plain (s .lng)) HALF)))
-unfolding around
+    → fromCenterSize p s ≡ rectAnswer (expanded (fromLatLng p .value) (at (Ieee.mul binary64 (plain (s .lat)) HALF) (Ieee.mul binary64 (plain (s .lng)) HALF)))
+unfolding zone.fromCenterSize
 center-size-starts p s q n = simp (center-size-is p q s n, from-latlng-is p q)
 
 -- ---- the polar closure of an empty rectangle is that rectangle
-pub empty-closure : (r : Rect) → Valid r → empty (asRead r) ≡ true → polarClosure r ≡ rectAnswer (asRead r)
-unfolding closure
+pub empty-closure : (r : Rect) → Valid r → isEmpty (asRead r) ≡ true → polarClosure r ≡ rectAnswer (asRead r)
+unfolding zone.polarClosure
 empty-closure r v e = closure-is r v ∙ simp e
 
 -- the crate's, with every longitude, is not valid
-pub crate-closure : (i : Line) → line.empty i ≡ true → valid (box i circle.FULL) ≡ false
-unfolding valid circle.empty ofBits eq
-crate-closure i e = simp e (none (validLatitudes i && circle.valid circle.FULL))
+pub crate-closure : (i : Line) → line.isEmpty i ≡ true → isValid (box i circle.FULL) ≡ false
+unfolding isValid circle.isEmpty ofBits eq
+crate-closure i e = simp e (none (validLatitudes i && circle.isValid circle.FULL))
   where
     none : (t : Bool) → t && false ≡ false
     none true = refl
@@ -61,6 +62,6 @@ pub add-out : (r : Rect) (p : LatLng) → rectInReach r ≡ false → add r p �
 unfolding add
 add-out r p h = simp (one-out r h)
 
-pub add-not-valid : (r : Rect) (p : LatLng) → rectInReach r ≡ true → valid r ≡ false → add r p ≡ emptyUnder (number notValid)
+pub add-not-valid : (r : Rect) (p : LatLng) → rectInReach r ≡ true → isValid r ≡ false → add r p ≡ emptyUnder (number notValid)
 unfolding add
 add-not-valid r p k h = simp (one-not-valid r k h)

@@ -9,7 +9,8 @@ use Rattle.consts.specs.Reading.{inReach, plain}
 use Rattle.r1.specs.Line as line
 use Rattle.s1.specs.Circle as circle
 use Rattle.s2.specs.declared.rect.Rect.{Rect}
-use Rattle.s2.specs.Rect.{SOUTH, box, FULL, EMPTY, latitude, valid, empty, closure, strictlyCovers}
+use Rattle.s2.specs.Zone as zone
+use Rattle.s2.specs.Zone.{SOUTH, box, FULL, EMPTY, latitude, isEmpty}
 use Rattle.s2.specs.Reading.{rectInReach, asRead, readOne, readTwo}
 use Rattle.s2.specs.Answers.{rectAnswer, isValid, isInverted, interiorContains, polarClosure}
 
@@ -19,7 +20,7 @@ abbrev southern : Rect
 southern = box (line.ends SOUTH (ofBits binary64 0xC000000000000000)) circle.EMPTY
 
 pub southern-closure : polarClosure southern ≡ rectAnswer southern
-unfolding polarClosure readOne asRead rectInReach valid latitude inReach plain closure empty line.empty circle.valid circle.empty ofBits lt le eq
+unfolding polarClosure readOne asRead rectInReach zone.isValid latitude inReach plain zone.polarClosure isEmpty line.isEmpty circle.isValid circle.isEmpty ofBits lt le eq
 southern-closure = refl
 
 -- lat.hi out of reach below: no valid rectangle in reach
@@ -29,9 +30,9 @@ too-low = refl
 
 -- an empty rectangle is inverted, and the full one does not lie in its own interior, as the crate has it
 pub empty-inverted : isInverted EMPTY ≡ yesNo true
-unfolding isInverted readOne asRead rectInReach valid latitude inReach plain line.empty circle.valid circle.empty ofBits lt le eq
+unfolding isInverted readOne asRead rectInReach zone.isValid latitude inReach plain line.isEmpty circle.isValid circle.isEmpty ofBits lt le eq
 empty-inverted = refl
 
 pub full-interior : interiorContains FULL FULL ≡ yesNo false
-unfolding interiorContains readTwo readOne asRead firstRefusal rectInReach valid latitude inReach plain strictlyCovers line.empty line.strictlyCovers circle.strictlyCovers circle.valid circle.empty ofBits lt le eq
+unfolding interiorContains readTwo readOne asRead firstRefusal rectInReach zone.isValid latitude inReach plain zone.interiorContains line.isEmpty line.interiorContainsInterval circle.interiorContainsInterval circle.isValid circle.isEmpty ofBits lt le eq
 full-interior = refl

@@ -7,12 +7,12 @@ use Rattle.order.proofs.Ranks.{and-l, and-r, and-of, or-of-l}
 use Rattle.order.proofs.Facts.{le-refl}
 use Rattle.r1.specs.declared.interval.Interval.{Interval as Line}
 use Rattle.r1.specs.Line as line
-use Rattle.r1.specs.Places.{Place as LatPlace, InReach as LatReach}
+use Rattle.r1.specs.Places.{holds as latHolds, Place as LatPlace, InReach as LatReach}
 use Rattle.r1.proofs.Readings.{place-num}
-use Rattle.r1.proofs.Ends.{hull-ends, overlap-ends, grown-ends, pair-ends}
+use Rattle.r1.proofs.Ends.{union-ends, intersection-ends, read-add-ends, pair-ends}
 use Rattle.r1.proofs.Trials as trials
 use Rattle.r1.proofs.Trials.{point-reach, pair-reach}
-use Rattle.s2.specs.Rect.{NORTH, SOUTH, latitude, validLatitudes}
+use Rattle.s2.specs.Zone.{NORTH, SOUTH, latitude, validLatitudes}
 use Rattle.s2.proofs.Readings.{latitude-reach}
 
 -- a western end lies from pole to pole, an eastern end not above the pole
@@ -57,16 +57,16 @@ of-ends : {i : Line} → South (i .lo) × North (i .hi) → Range i
 of-ends a = record { south = a .0; north = a .1 }
 
 module _ {i o : Line} (a : Range i) (b : Range o) where
-  pub hull-range : Range (line.hull i o)
-  hull-range = of-ends (hull-ends South North i o (ends-of a) (ends-of b))
+  pub union-range : Range (line.union i o)
+  union-range = of-ends (union-ends South North i o (ends-of a) (ends-of b))
 
-  pub overlap-range : Range (line.overlap i o)
-  overlap-range = of-ends (overlap-ends South North i o (ends-of a) (ends-of b))
+  pub intersection-range : Range (line.intersection i o)
+  intersection-range = of-ends (intersection-ends South North i o (ends-of a) (ends-of b))
 
-pub grown-range : {i : Line} {x : Float} → Range i → South x → Range (line.grown i x)
-grown-range {i} {x} a s = of-ends (grown-ends South North x s (north-of s) i (ends-of a))
+pub add-range : {i : Line} {x : Float} → Range i → South x → Range (line.add i x)
+add-range {i} {x} a s = of-ends (read-add-ends South North x s (north-of s) i (ends-of a))
 
-pub pair-range : {x y : Float} → South x → South y → Range (line.pair x y)
+pub pair-range : {x y : Float} → South x → South y → Range (line.fromPointPair x y)
 pair-range {x} {y} s t = of-ends (pair-ends South North x s (north-of s) y t (north-of t))
 
 -- ---- what has a latitude
@@ -75,34 +75,34 @@ is-false true h = absurd (false≢true h)
 is-false false h = refl
 
 -- it holds its western end
-pub filled-lo : {i : Line} → LatReach i → line.empty i ≡ false → line.holds i (i .lo) ≡ true
+pub filled-lo : {i : Line} → LatReach i → line.isEmpty i ≡ false → latHolds i (i .lo) ≡ true
 filled-lo v e = trials.holds-lo v v (v .lo-place) (rw e refl)
 
 -- an interval that holds a latitude is not empty
-pub filled : {i : Line} {x : Float} → LatReach i → LatPlace x → line.holds i x ≡ true → line.empty i ≡ false
-filled {i} v q h = is-false (line.empty i) (trials.not-empty v v q h)
+pub filled : {i : Line} {x : Float} → LatReach i → LatPlace x → latHolds i x ≡ true → line.isEmpty i ≡ false
+filled {i} v q h = is-false (line.isEmpty i) (trials.not-empty v v q h)
 
 -- the hull is empty where both are
-pub hull-empty : {i o : Line} → Range i → Range o → line.empty (line.hull i o) ≡ line.empty i && line.empty o
-unfolding line.hull
-hull-empty {i} {o} a b = go (line.empty i) refl
+pub union-empty : {i o : Line} → Range i → Range o → line.isEmpty (line.union i o) ≡ line.isEmpty i && line.isEmpty o
+unfolding line.union
+union-empty {i} {o} a b = go (line.isEmpty i) refl
   where
     v : LatReach i
     v = range-reach a
 
-    go : (t : Bool) → line.empty i ≡ t → line.empty (line.hull i o) ≡ line.empty i && line.empty o
+    go : (t : Bool) → line.isEmpty i ≡ t → line.isEmpty (line.union i o) ≡ line.isEmpty i && line.isEmpty o
     go true e = simp e
     go false e =
-        filled (range-reach (hull-range a b)) (v .lo-place) (trials.hull-holds v (range-reach b) (v .lo-place) (or-of-l _ (line.holds o (i .lo)) (filled-lo v e)))
+        filled (range-reach (union-range a b)) (v .lo-place) (trials.read-union-holds v (range-reach b) (v .lo-place) (or-of-l _ (latHolds o (i .lo)) (filled-lo v e)))
         ∙ sym (simp e)
 
-pub grown-filled : {i : Line} {x : Float} → Range i → South x → line.empty (line.grown i x) ≡ false
-grown-filled a s = filled (range-reach (grown-range a s)) (s .is-place) (trials.grown-takes (range-reach a) (point-reach (s .is-place)) (s .is-place))
+pub add-filled : {i : Line} {x : Float} → Range i → South x → line.isEmpty (line.add i x) ≡ false
+add-filled a s = filled (range-reach (add-range a s)) (s .is-place) (trials.add-takes (range-reach a) (point-reach (s .is-place)) (s .is-place))
 
-pub pair-filled : {x y : Float} → South x → South y → line.empty (line.pair x y) ≡ false
+pub pair-filled : {x y : Float} → South x → South y → line.isEmpty (line.fromPointPair x y) ≡ false
 pair-filled s t =
     filled (range-reach (pair-range s t)) (s .is-place) (trials.pair-holds (pair-reach (s .is-place) (t .is-place)) (pair-reach (s .is-place) (t .is-place)) (s .is-place) .0)
 
-pub point-filled : {x : Float} → South x → line.empty (line.ends x x) ≡ false
-unfolding line.holds
+pub point-filled : {x : Float} → South x → line.isEmpty (line.ends x x) ≡ false
+unfolding latHolds
 point-filled {x} s = let r = le-refl x (place-num (s .is-place)) in filled (point-reach (s .is-place)) (s .is-place) (and-of r r)

@@ -1,4 +1,5 @@
 pub mod Readings
+pub mod Refusals
 pub mod Accepted
 pub mod Latitudes
 pub mod Clamps
@@ -11,3 +12,4 @@ pub mod Interiors
 pub mod Zeros
 pub mod Differences
 pub mod Examples
+pub mod Promises

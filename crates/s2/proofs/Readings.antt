@@ -1,7 +1,7 @@
--- Reading the operands of a rectangle's operation: operands within the limits are accepted, with their zeros read, which changes no place that they hold;
--- the first operand that is out of reach, or in reach and not valid, decides otherwise. Assumes nothing.
-use mathlib.Core.Path.{_≡_, refl, sym, _∙_}
-use mathlib.Core.Bool.{Bool, true, false, _&&_, cond, false≢true}
+-- Reading the operands of a rectangle's operation: operands within the limits are accepted, with their zeros read, which changes no place that they hold.
+-- Assumes nothing.
+use mathlib.Core.Path.{_≡_, refl, _∙_}
+use mathlib.Core.Bool.{Bool, true, false, _&&_, cond}
 use Prim.Native.Nat.{ℕ}
 use lib.Dec.{eqb}
 use lib.Ieee.{Float, binary64, ofBits, fits, lt, le, eq}
@@ -11,14 +11,14 @@ use Rattle.order.proofs.Facts.{le-trans, lt-le, num-l, num-r, le-no, lt-not-eq}
 use Rattle.order.proofs.Bounds.{Between, between, widen}
 use Rattle.order.proofs.Monotone.{real-num}
 use Rattle.consts.specs.Constants.{PI, NEG-PI}
-use Rattle.consts.specs.Refusal.{number, accepted, outOfReach, notValid, badPoint, badMargin, firstRefusal}
+use Rattle.consts.specs.Refusal.{number, accepted, outOfReach, notValid, badPoint, firstRefusal}
 use Rattle.consts.specs.Reading.{inReach, readNumber, LEAST, MOST}
 use Rattle.consts.proofs.Readings.{plain-fits, plain-num, plain-reach, plain-le, le-plain, plain-lt, lt-plain, plain-eq, eq-plain}
 use Rattle.r1.specs.declared.interval.Interval.{Interval as Line}
 use Rattle.r1.specs.Line as line
-use Rattle.r1.specs.Line.{holds as latHolds, strictlyHolds as latStrictlyHolds}
+use Rattle.r1.specs.Places.{holds as latHolds, Place as LatPlace, InReach as LatReach}
+use Rattle.r1.specs.Line.{interiorContains as latStrictlyHolds}
 use Rattle.r1.specs.Reading.{plainEnds as linePlain}
-use Rattle.r1.specs.Places.{Place as LatPlace, InReach as LatReach}
 use Rattle.r1.proofs.Readings.{place-num, reach-plain, holds-plain, strict-plain}
 use Rattle.s1.specs.declared.interval.Interval.{Interval as Circle}
 use Rattle.s1.specs.Circle as circle
@@ -28,10 +28,12 @@ use Rattle.s1.proofs.Readings.{num-of, circle-reach, valid-on}
 use Rattle.s1.proofs.Held.{num-PI, num-NEG, lo-num, hi-num, at-num}
 use Rattle.s1.proofs.Limits.{valid-plain}
 use Rattle.s2.specs.declared.latlng.LatLng.{LatLng}
+use Rattle.s2.specs.declared.place.Place.{Place}
 use Rattle.s2.specs.declared.rect.Rect.{Rect}
-use Rattle.s2.specs.Rect.{NORTH, SOUTH, latitude, validPoint, valid}
-use Rattle.s2.specs.Reading.{usual, rectInReach, asRead, plainPoint, readOne, readTwo, readPoint, readMargins, readWithPoint, readWithMargins}
-use Rattle.s2.specs.Places.{Place, Valid, ValidPoint, Margins, holds}
+use Rattle.s2.specs.Zone.{NORTH, SOUTH, latitude, validLatitudes, isLatLng, isValid}
+use Rattle.s2.specs.Reading.{rectInReach, asRead, plainPoint, readOne, readTwo, readPoint, readMargins, readWithPoint, readWithMargins}
+use Rattle.s2.specs.Devices.{usual}
+use Rattle.s2.specs.Places.{IsPlace, Doubles, DoublePoint, Valid, ValidPoint, Margins, holds}
 
 -- ---- what is valid is in reach
 pub poles : (Real SOUTH ≡ true) × (Real NORTH ≡ true)
@@ -47,59 +49,53 @@ unfolding inReach fits ofBits lt le eq
 latitude-reach x f h = let b = widen LEAST MOST (latitude-between x f h) refl in and-of (b .low) (b .high)
 
 -- a valid rectangle is in reach where its lat.hi is
-pub valid-reach : (r : Rect)
-    → fits binary64 (r .lat .lo) ≡ true
-    → fits binary64 (r .lng .lo) ≡ true
-    → fits binary64 (r .lng .hi) ≡ true
-    → valid r ≡ true
-    → inReach (r .lat .hi) ≡ true
-    → rectInReach r ≡ true
-unfolding valid rectInReach
-valid-reach r f g h v k =
+pub valid-reach : {r : Rect} → Doubles r → isValid r ≡ true → inReach (r .lat .hi) ≡ true → rectInReach r ≡ true
+unfolding isValid rectInReach
+valid-reach {r} d v k =
     let a : latitude (r .lat .lo) ≡ true = search (and-l, and-r) in
-    let c : circle.valid (r .lng) ≡ true = search (and-l, and-r) in
+    let c : circle.isValid (r .lng) ≡ true = search (and-l, and-r) in
     let on = valid-on (r .lng) c in
-    and-of (and-of (and-of (latitude-reach (r .lat .lo) f a) k) (circle-reach (r .lng .lo) g (on .0))) (circle-reach (r .lng .hi) h (on .1))
+    and-of (and-of (and-of (latitude-reach (r .lat .lo) (d .lat-lo) a) k) (circle-reach (r .lng .lo) (d .lng-lo) (on .0))) (circle-reach (r .lng .hi) (d .lng-hi) (on .1))
 
 -- a usual rectangle is valid, with lat.hi in reach
-module _ (r : Rect) (f : fits binary64 (r .lat .lo) ≡ true) (g : fits binary64 (r .lat .hi) ≡ true) (h : fits binary64 (r .lng .lo) ≡ true) (k : fits binary64 (r .lng .hi) ≡ true) (u : usual r ≡ true) where
-  usual-latitudes : (latitude (r .lat .lo) ≡ true) × (latitude (r .lat .hi) ≡ true) × (line.empty (r .lat) ≡ false)
-  unfolding usual latitude line.empty
+module _ {r : Rect} (d : Doubles r) (u : usual r ≡ true) where
+  usual-latitudes : (latitude (r .lat .lo) ≡ true) × (latitude (r .lat .hi) ≡ true) × (line.isEmpty (r .lat) ≡ false)
+  unfolding usual latitude line.isEmpty
   usual-latitudes =
       let a : le SOUTH (r .lat .lo) ≡ true = search (and-l, and-r) in
       let b : le (r .lat .lo) (r .lat .hi) ≡ true = search (and-l, and-r) in
       let c : le (r .lat .hi) NORTH ≡ true = search (and-l, and-r) in
-      let n = num-r SOUTH (r .lat .lo) f a in
-      let m = num-l (r .lat .hi) NORTH g c in
+      let n = num-r SOUTH (r .lat .lo) (d .lat-lo) a in
+      let m = num-l (r .lat .hi) NORTH (d .lat-hi) c in
       let s = real-num SOUTH (poles .0) in
       let t = real-num NORTH (poles .1) in
       (and-of a (le-trans (r .lat .lo) (r .lat .hi) NORTH n m t b c), and-of (le-trans SOUTH (r .lat .lo) (r .lat .hi) s n m a b) c, le-no (r .lat .lo) (r .lat .hi) n m b)
 
-  usual-longitudes : (circle.valid (r .lng) ≡ true) × (circle.empty (r .lng) ≡ false)
-  unfolding usual circle.valid circle.empty
+  usual-longitudes : (circle.isValid (r .lng) ≡ true) × (circle.isEmpty (r .lng) ≡ false)
+  unfolding usual circle.isValid circle.isEmpty
   usual-longitudes =
       let a : lt NEG-PI (r .lng .lo) ≡ true = search (and-l, and-r) in
       let b : le (r .lng .lo) PI ≡ true = search (and-l, and-r) in
       let c : lt NEG-PI (r .lng .hi) ≡ true = search (and-l, and-r) in
-      let d : le (r .lng .hi) PI ≡ true = search (and-l, and-r) in
+      let e : le (r .lng .hi) PI ≡ true = search (and-l, and-r) in
       let p = lt-le NEG-PI (r .lng .lo) a in
       let q = lt-le NEG-PI (r .lng .hi) c in
-      let x = lt-not-eq NEG-PI (r .lng .lo) num-NEG (num-of (r .lng .lo) h p) a in
-      let y = lt-not-eq NEG-PI (r .lng .hi) num-NEG (num-of (r .lng .hi) k q) c in
-      (simp (p, b, q, d, x, y), and-off (eq (r .lng .lo) PI) (eq (r .lng .hi) NEG-PI) y)
+      let x = lt-not-eq NEG-PI (r .lng .lo) num-NEG (num-of (r .lng .lo) (d .lng-lo) p) a in
+      let y = lt-not-eq NEG-PI (r .lng .hi) num-NEG (num-of (r .lng .hi) (d .lng-hi) q) c in
+      (simp (p, b, q, e, x, y), and-off (eq (r .lng .lo) PI) (eq (r .lng .hi) NEG-PI) y)
 
-  pub usual-valid : valid r && inReach (r .lat .hi) ≡ true
-  unfolding valid
+  pub usual-valid : isValid r && inReach (r .lat .hi) ≡ true
+  unfolding isValid
   usual-valid =
       let north : le (r .lat .hi) NORTH ≡ true = unfold latitude in and-r (le SOUTH (r .lat .hi)) _ (usual-latitudes .1) in
-      simp (usual-latitudes .0, north, usual-longitudes .0, usual-latitudes .2, usual-longitudes .1, latitude-reach (r .lat .hi) g (usual-latitudes .1))
+      simp (usual-latitudes .0, north, usual-longitudes .0, usual-latitudes .2, usual-longitudes .1, latitude-reach (r .lat .hi) (d .lat-hi) (usual-latitudes .1))
 
   -- so it is accepted
   pub usual-in : readOne r .refusal ≡ number accepted
   unfolding readOne
   usual-in =
-      let v = and-l (valid r) (inReach (r .lat .hi)) usual-valid in
-      simp (valid-reach r f h k v (and-r (valid r) (inReach (r .lat .hi)) usual-valid), v)
+      let v = and-l (isValid r) (inReach (r .lat .hi)) usual-valid in
+      simp (valid-reach d v (and-r (isValid r) (inReach (r .lat .hi)) usual-valid), v)
 
 -- of two refusals that are the same, that one is given
 pub first-same : (n : ℕ) → firstRefusal n n ≡ n
@@ -111,18 +107,53 @@ first-same n = same (eqb n 0)
     same false = refl
 
 -- in reach, a rectangle that is not accepted is not valid
-pub only-valid : (r : Rect) → valid r && inReach (r .lat .hi) ≡ false → rectInReach r ≡ true → valid r ≡ false
+pub only-valid : (r : Rect) → isValid r && inReach (r .lat .hi) ≡ false → rectInReach r ≡ true → isValid r ≡ false
 unfolding rectInReach
 only-valid r h k =
     let e : inReach (r .lat .hi) ≡ true = search (and-l, and-r) in
-    drop (valid r) (inReach (r .lat .hi)) e h
+    drop (isValid r) (inReach (r .lat .hi)) e h
   where
     drop : (a b : Bool) → b ≡ true → a && b ≡ false → a ≡ false
     drop true b e h = rw e at h
     drop false b e h = refl
 
+pub doubles-of : {r : Rect} → Valid r → Doubles r
+doubles-of v =
+    record {
+      lat-lo = v .lat-reach .lo-place .is-double;
+      lat-hi = v .lat-reach .hi-place .is-double;
+      lng-lo = v .lng-valid .lo-double;
+      lng-hi = v .lng-valid .hi-double;
+    }
+
 pub reach-of : {r : Rect} → Valid r → rectInReach r ≡ true
-reach-of {r} v = valid-reach r (v .lat-reach .lo-place .is-double) (v .lng-valid .lo-double) (v .lng-valid .hi-double) (v .is-valid) (v .lat-reach .hi-place .in-reach)
+reach-of {r} v = valid-reach (doubles-of v) (v .is-valid) (v .lat-reach .hi-place .in-reach)
+
+-- doubles within the limits
+pub valid-of : {r : Rect} → Doubles r → rectInReach r ≡ true → isValid r ≡ true → Valid r
+unfolding rectInReach isValid
+valid-of {r} d k h =
+    let reach = and-l _ _ (and-l _ _ k) in
+    record {
+      lat-reach = record {
+        lo-place = record { is-double = d .lat-lo; in-reach = and-l _ _ reach };
+        hi-place = record { is-double = d .lat-hi; in-reach = and-r (inReach (r .lat .lo)) _ reach };
+      };
+      lng-valid = record { lo-double = d .lng-lo; hi-double = d .lng-hi; is-valid = and-r (validLatitudes (r .lat)) (circle.isValid (r .lng)) (and-l _ _ h) };
+      is-valid = h;
+    }
+
+pub point-of : {p : LatLng} → DoublePoint p → isLatLng p ≡ true → ValidPoint p
+point-of d h = record { lat-double = d .lat-double; lng-double = d .lng-double; is-valid = h }
+
+pub margins-of : {m : LatLng} → DoublePoint m → inReach (m .lat) && inReach (m .lng) ≡ true → Margins m
+margins-of {m} d h =
+    record {
+      lat-double = d .lat-double;
+      lng-double = d .lng-double;
+      lat-in-reach = and-l (inReach (m .lat)) (inReach (m .lng)) h;
+      lng-in-reach = and-r (inReach (m .lat)) (inReach (m .lng)) h;
+    }
 
 -- ---- within the limits
 module _ (r : Rect) (v : Valid r) where
@@ -151,69 +182,18 @@ module _ (r : Rect) (v : Valid r) where
   unfolding readWithMargins firstRefusal
   with-margins-in m n = simp (one-in r v, margins-in m n)
 
--- ---- refused: a number out of reach
-module _ (r : Rect) (h : rectInReach r ≡ false) where
-  pub one-out : readOne r .refusal ≡ number outOfReach
-  unfolding readOne
-  one-out = simp h
+-- ---- refused (proofs/Refusals.antt has what each operation makes of it)
+pub one-out : (r : Rect) → rectInReach r ≡ false → readOne r .refusal ≡ number outOfReach
+unfolding readOne
+one-out r h = simp h
 
-  -- the left operand decides, whatever stands beside it
-  pub two-out : (o : Rect) → readTwo r o .refusal ≡ number outOfReach
-  unfolding readTwo readOne firstRefusal
-  two-out o = simp h
+pub one-not-valid : (r : Rect) → rectInReach r ≡ true → isValid r ≡ false → readOne r .refusal ≡ number notValid
+unfolding readOne
+one-not-valid r k h = simp (k, h)
 
-  pub with-point-out : (p : LatLng) → readWithPoint r p .refusal ≡ number outOfReach
-  unfolding readWithPoint readOne firstRefusal
-  with-point-out p = simp h
-
-  pub with-margins-out : (m : LatLng) → readWithMargins r m .refusal ≡ number outOfReach
-  unfolding readWithMargins readOne firstRefusal
-  with-margins-out m = simp h
-
--- refused: in reach, and not valid
-module _ (r : Rect) (k : rectInReach r ≡ true) (h : valid r ≡ false) where
-  pub one-not-valid : readOne r .refusal ≡ number notValid
-  unfolding readOne
-  one-not-valid = simp (k, h)
-
-  pub two-not-valid : (o : Rect) → readTwo r o .refusal ≡ number notValid
-  unfolding readTwo readOne firstRefusal
-  two-not-valid o = simp (k, h)
-
-  pub with-point-not-valid : (p : LatLng) → readWithPoint r p .refusal ≡ number notValid
-  unfolding readWithPoint readOne firstRefusal
-  with-point-not-valid p = simp (k, h)
-
-  pub with-margins-not-valid : (m : LatLng) → readWithMargins r m .refusal ≡ number notValid
-  unfolding readWithMargins readOne firstRefusal
-  with-margins-not-valid m = simp (k, h)
-
--- then the right rectangle, the point, and the margins
-pub two-right : (r o : Rect) → Valid r → readTwo r o .refusal ≡ readOne o .refusal
-unfolding readTwo firstRefusal
-two-right r o v = simp (one-in r v)
-
-pub point-bad : (p : LatLng) → validPoint p ≡ false → readPoint p .refusal ≡ number badPoint
+pub point-bad : (p : LatLng) → isLatLng p ≡ false → readPoint p .refusal ≡ number badPoint
 unfolding readPoint
 point-bad p h = simp h
-
-pub with-point-bad : (r : Rect) (p : LatLng) → Valid r → validPoint p ≡ false → readWithPoint r p .refusal ≡ number badPoint
-unfolding readWithPoint firstRefusal
-with-point-bad r p v h = simp (one-in r v, point-bad p h)
-
-first-bad : (a b : Bool) → a && b ≡ false → firstRefusal (cond a (number accepted) (number badMargin)) (cond b (number accepted) (number badMargin)) ≡ number badMargin
-unfolding firstRefusal
-first-bad false b h = refl
-first-bad true false h = refl
-first-bad true true h = absurd (false≢true (sym h))
-
-pub margins-bad : (m : LatLng) → inReach (m .lat) && inReach (m .lng) ≡ false → readMargins m .refusal ≡ number badMargin
-unfolding readMargins readNumber
-margins-bad m h = first-bad (inReach (m .lat)) (inReach (m .lng)) h
-
-pub with-margins-bad : (r : Rect) (m : LatLng) → Valid r → inReach (m .lat) && inReach (m .lng) ≡ false → readWithMargins r m .refusal ≡ number badMargin
-unfolding readWithMargins firstRefusal
-with-margins-bad r m v h = simp (one-in r v, margins-bad m h)
 
 -- ---- what is read holds the same places
 -- a valid interval's ends are numbers
@@ -224,8 +204,8 @@ pub pi-nums : (Num NEG-PI ≡ true) × (Num PI ≡ true)
 pi-nums = (num-NEG, num-PI)
 
 module _ {i : Circle} (v : LngValid i) where
-  pub lng-valid-same : circle.valid (circlePlain i) ≡ circle.valid i
-  unfolding circle.valid
+  pub lng-valid-same : circle.isValid (circlePlain i) ≡ circle.isValid i
+  unfolding circle.isValid
   lng-valid-same =
       let a = lng-nums v .0 in
       let b = lng-nums v .1 in
@@ -233,8 +213,8 @@ module _ {i : Circle} (v : LngValid i) where
       let p = pi-nums .1 in
       simp (plain-le, le-plain, plain-eq)
 
-  pub lng-empty-plain : circle.empty (circlePlain i) ≡ circle.empty i
-  unfolding circle.empty
+  pub lng-empty-plain : circle.isEmpty (circlePlain i) ≡ circle.isEmpty i
+  unfolding circle.isEmpty
   lng-empty-plain =
       let a = lng-nums v .0 in
       let b = lng-nums v .1 in
@@ -248,8 +228,8 @@ module _ {i : Circle} (v : LngValid i) where
 pole-nums : (Num SOUTH ≡ true) × (Num NORTH ≡ true)
 pole-nums = (real-num SOUTH (poles .0), real-num NORTH (poles .1))
 
-pub lat-empty-plain : {i : Line} → LatReach i → line.empty (linePlain i) ≡ line.empty i
-unfolding line.empty
+pub lat-empty-plain : {i : Line} → LatReach i → line.isEmpty (linePlain i) ≡ line.isEmpty i
+unfolding line.isEmpty
 lat-empty-plain v =
     let a = place-num (v .lo-place) in
     let b = place-num (v .hi-place) in
@@ -257,8 +237,8 @@ lat-empty-plain v =
     simp (plain-lt, lt-plain)
 
 module _ {r : Rect} (v : Valid r) where
-  valid-same : valid (asRead r) ≡ valid r
-  unfolding asRead valid latitude
+  valid-same : isValid (asRead r) ≡ isValid r
+  unfolding asRead isValid latitude
   valid-same =
       let a = place-num (v .lat-reach .lo-place) in
       let b = place-num (v .lat-reach .hi-place) in
@@ -275,8 +255,8 @@ pub lng-place-num : {at : Float} {g : Bool} → LngPlace at g → Num at ≡ tru
 lng-place-num q = at-num q
 
 -- a latitude is a place of the line
-pub lat-place : {x at : Float} {g : Bool} → Place x at g → LatPlace x
-lat-place {x} q = record { is-double = q .is-double; in-reach = latitude-reach x (q .is-double) (q .is-latitude) }
+pub lat-place : {p : Place} → IsPlace p → LatPlace (p .lat)
+lat-place {p} q = record { is-double = q .is-double; in-reach = latitude-reach (p .lat) (q .is-double) (q .is-latitude) }
 
 lng-plain : (i : Circle) → LngValid i → (at : Float) (g : Bool) → LngPlace at g → lngHolds (circlePlain i) at g ≡ lngHolds i at g
 lng-plain i v at g q =
@@ -308,8 +288,8 @@ module _ (r : Rect) (v : Valid r) where
   unfolding asRead
   lng-read at g q = lng-plain (r .lng) (v .lng-valid) at g q
 
-  pub holds-read : (x at : Float) (g : Bool) → Place x at g → holds (asRead r) x at g ≡ holds r x at g
-  holds-read x at g q = simp (lat-read x (lat-place q), lng-read at g (q .lng-place))
+  pub holds-read : (p : Place) → IsPlace p → holds (asRead r) p ≡ holds r p
+  holds-read p q = simp (lat-read (p .lat) (lat-place q), lng-read (p .lng) (p .gap) (q .lng-place))
 
   -- and what lies strictly inside lay so
   pub lat-strict-read : (x : Float) → LatPlace x → latStrictlyHolds (asRead r .lat) x ≡ latStrictlyHolds (r .lat) x
@@ -323,14 +303,14 @@ module _ (r : Rect) (v : Valid r) where
 -- a point, and margins, as they are read
 module _ {p : LatLng} (q : ValidPoint p) where
   point-nums : (Num (p .lat) ≡ true) × (Num (p .lng) ≡ true)
-  unfolding validPoint onCircle
+  unfolding isLatLng onCircle
   point-nums =
       let a : latitude (p .lat) ≡ true = search (and-l, q .is-valid) in
       let b : le NEG-PI (p .lng) ≡ true = search (and-l, and-r, q .is-valid) in
       (real-num (p .lat) (latitude-between (p .lat) (q .lat-double) a .real), num-of (p .lng) (q .lng-double) b)
 
   pub valid-point-plain : ValidPoint (plainPoint p)
-  unfolding validPoint latitude onCircle
+  unfolding isLatLng latitude onCircle
   valid-point-plain =
       let a = point-nums .0 in
       let b = point-nums .1 in

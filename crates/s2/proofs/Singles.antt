@@ -11,21 +11,21 @@ use Rattle.consts.specs.Answer.{Decides}
 use Rattle.consts.proofs.Decisions.{decides}
 use Rattle.r1.specs.declared.interval.Interval.{Interval as Line}
 use Rattle.r1.specs.Line as line
-use Rattle.r1.specs.Line.{holds as latHolds}
-use Rattle.r1.specs.Places.{Place as LatPlace, InReach as LatReach}
+use Rattle.r1.specs.Places.{holds as latHolds, Place as LatPlace, InReach as LatReach}
 use Rattle.r1.proofs.Readings.{place-num}
 use Rattle.s1.specs.declared.interval.Interval.{Interval as Circle}
 use Rattle.s1.specs.Circle as circle
 use Rattle.s1.specs.Places.{Place as LngPlace, Valid as LngValid, holds as lngHolds}
 use Rattle.s2.specs.declared.rect.Rect.{Rect}
-use Rattle.s2.specs.Rect.{empty, single}
+use Rattle.s2.specs.Zone as zone
+use Rattle.s2.specs.Zone.{isEmpty}
 use Rattle.s2.specs.Reading.{asRead}
 use Rattle.s2.specs.Answers.{isPoint}
-use Rattle.s2.specs.Places.{Valid, holds, Single}
+use Rattle.s2.specs.Places.{placeAt, Valid, holds, Single}
 use Rattle.s2.proofs.Readings.{lng-nums, pi-nums, lng-place-num, lat-place, one-in, valid-read}
 use Rattle.s2.proofs.Circles.{apart, below, lng-hi}
 use Rattle.s2.proofs.Valid.{range, empty-both}
-use Rattle.s2.proofs.Places.{own-place, own-held, holds-filled, held-latitude, to-read, from-read, place-of, lat-held, lng-held}
+use Rattle.s2.proofs.Places.{own, own-place, own-held, holds-filled, held-latitude, to-read, from-read, place-of, lat-held, lng-held}
 
 -- ---- numbers
 module _ (x y z : Float) (nx : Num x ≡ true) (ny : Num y ≡ true) (nz : Num z ≡ true) where
@@ -69,8 +69,8 @@ module _ {i : Circle} (v : LngValid i) where
       go false h = (squeezed (i .lo) b (i .hi) (lng-nums v .0) n (lng-nums v .1) e (and-l (le (i .lo) b) (le b (i .hi)) h) (and-r (le (i .lo) b) (le b (i .hi)) h) .1, refl)
 
   -- its western end is a place that it holds; of FULL, which starts at -PI, the gap above is
-  lng-lo : circle.empty i ≡ false → eq (i .lo) NEG-PI ≡ false → LngPlace (i .lo) false × (lngHolds i (i .lo) false ≡ true)
-  unfolding circle.empty circle.valid
+  lng-lo : circle.isEmpty i ≡ false → eq (i .lo) NEG-PI ≡ false → LngPlace (i .lo) false × (lngHolds i (i .lo) false ≡ true)
+  unfolding circle.isEmpty circle.isValid
   lng-lo h e =
       let n = lng-nums v .0 in
       let m = lng-nums v .1 in
@@ -84,7 +84,7 @@ module _ {i : Circle} (v : LngValid i) where
       held false d r = simp (d, not-lt (i .hi) (i .lo) (lng-nums v .1) (lng-nums v .0) d, r)
 
   lng-gap : eq (i .lo) NEG-PI ≡ true → LngPlace (i .lo) true × (lngHolds i (i .lo) true ≡ true)
-  unfolding circle.valid
+  unfolding circle.isValid
   lng-gap e =
       let n = lng-nums v .0 in
       let m = lng-nums v .1 in
@@ -98,7 +98,7 @@ module _ {i : Circle} (v : LngValid i) where
       full-hi true h = refl
       full-hi false h = h
 
-  lng-same : (at : Float) → Num at ≡ true → circle.empty i ≡ false
+  lng-same : (at : Float) → Num at ≡ true → circle.isEmpty i ≡ false
       → ((b : Float) (g : Bool) → LngPlace b g → lngHolds i b g ≡ true → (eq b at ≡ true) × (g ≡ false)) → eq (i .lo) (i .hi) ≡ true
   lng-same at n h H = go (eq (i .lo) NEG-PI) refl
     where
@@ -112,55 +112,55 @@ module _ {i : Circle} (v : LngValid i) where
 -- ---- latitudes
 module _ {i : Line} (v : LatReach i) where
   lat-only : eq (i .lo) (i .hi) ≡ true → (y : Float) → LatPlace y → latHolds i y ≡ true → eq y (i .lo) ≡ true
-  unfolding line.holds
+  unfolding latHolds
   lat-only e y q h =
       squeezed (i .lo) y (i .hi) (place-num (v .lo-place)) (place-num q) (place-num (v .hi-place)) e (and-l (le (i .lo) y) (le y (i .hi)) h) (and-r (le (i .lo) y) (le y (i .hi)) h) .0
 
-  lat-hi : line.empty i ≡ false → latHolds i (i .hi) ≡ true
-  unfolding line.empty line.holds
+  lat-hi : line.isEmpty i ≡ false → latHolds i (i .hi) ≡ true
+  unfolding line.isEmpty latHolds
   lat-hi e =
       let n = place-num (v .lo-place) in
       let m = place-num (v .hi-place) in
       and-of (not-lt (i .hi) (i .lo) m n e) (le-refl (i .hi) m)
 
-  lat-filled : eq (i .lo) (i .hi) ≡ true → line.empty i ≡ false
-  unfolding line.empty
+  lat-filled : eq (i .lo) (i .hi) ≡ true → line.isEmpty i ≡ false
+  unfolding line.isEmpty
   lat-filled e = not-less (i .lo) (i .hi) (place-num (v .lo-place)) (place-num (v .hi-place)) e
 
 -- ---- the rectangle
 module _ {r : Rect} (v : Valid r) where
-  single-fwd : single r ≡ true → Single r
-  unfolding single empty
+  single-fwd : zone.isPoint r ≡ true → Single r
+  unfolding zone.isPoint isEmpty
   single-fwd h =
       let a = and-l (eq (r .lat .lo) (r .lat .hi)) (eq (r .lng .lo) (r .lng .hi)) h in
       let b = and-r (eq (r .lat .lo) (r .lat .hi)) (eq (r .lng .lo) (r .lng .hi)) h in
       let e = lat-filled (v .lat-reach) a in
       record {
-        x = r .lat .lo;
-        at = r .lng .hi;
+        place = own r;
         is-place = own-place v e;
+        no-gap = refl;
         held = own-held v e;
-        only = λ y c g q k.
-            let d = lng-only (v .lng-valid) b c g (q .lng-place) (lng-held r y c g k) in
-            (lat-only (v .lat-reach) a y (lat-place q) (lat-held r y c g k), d .0, d .1);
+        only = λ p q k.
+            let d = lng-only (v .lng-valid) b (p .lng) (p .gap) (q .lng-place) (lng-held r p k) in
+            (lat-only (v .lat-reach) a (p .lat) (lat-place q) (lat-held r p k), d .0, d .1);
       }
 
-  single-bwd : Single r → single r ≡ true
-  unfolding single empty
+  single-bwd : Single r → zone.isPoint r ≡ true
+  unfolding zone.isPoint isEmpty
   single-bwd s =
       let e = holds-filled v (s .is-place) (s .held) in
       let p = own-place v e in
       let k = own-held v e in
       let la = v .lat-reach in
-      let lo = s .only (r .lat .lo) (r .lng .hi) false p k .0 in
+      let lo = s .only (own r) p k .0 in
       let hk = lat-hi la e in
       let hp = place-of (la .hi-place) (held-latitude (range v) (r .lat .hi) (la .hi-place) hk) (p .lng-place) in
-      let hi = s .only (r .lat .hi) (r .lng .hi) false hp (and-of hk (lng-held r (r .lat .lo) (r .lng .hi) false k)) .0 in
+      let hi = s .only (placeAt (r .lat .hi) (r .lng .hi) false) hp (and-of hk (lng-held r (own r) k)) .0 in
       and-of
-      (both-equal (r .lat .lo) (s .x) (r .lat .hi) (place-num (la .lo-place)) (place-num (lat-place (s .is-place))) (place-num (la .hi-place)) lo hi)
-      (lng-same (v .lng-valid) (s .at) (lng-place-num (s .is-place .lng-place)) (sym (empty-both v) ∙ e)
+      (both-equal (r .lat .lo) (s .place .lat) (r .lat .hi) (place-num (la .lo-place)) (place-num (lat-place (s .is-place))) (place-num (la .hi-place)) lo hi)
+      (lng-same (v .lng-valid) (s .place .lng) (lng-place-num (s .is-place .lng-place)) (sym (empty-both v) ∙ e)
       (λ b g q h.
-      let o = s .only (r .lat .lo) b g (place-of (la .lo-place) (p .is-latitude) q) (and-of (lat-held r (r .lat .lo) (r .lng .hi) false k) h) in
+      let o = s .only (placeAt (r .lat .lo) b g) (place-of (la .lo-place) (p .is-latitude) q) (and-of (lat-held r (own r) k) h) in
       (o .1, o .2)))
 
 -- `is_point` exactly when one place is held and no other
@@ -168,10 +168,10 @@ pub is-point-places : (r : Rect) → Valid r → Decides (isPoint r) (Single r)
 unfolding isPoint
 is-point-places r v =
     let w = valid-read v in
-    decides {b = single (asRead r)} (simp (one-in r v))
+    decides {b = zone.isPoint (asRead r)} (simp (one-in r v))
     (λ h.
     let s = single-fwd w h in
-    record { x = s .x; at = s .at; is-place = s .is-place; held = from-read v (s .is-place) (s .held); only = λ y b g q k. s .only y b g q (to-read v q k) })
+    record { place = s .place; is-place = s .is-place; no-gap = s .no-gap; held = from-read v (s .is-place) (s .held); only = λ p q k. s .only p q (to-read v q k) })
     (λ s.
     single-bwd w
-    (record { x = s .x; at = s .at; is-place = s .is-place; held = to-read v (s .is-place) (s .held); only = λ y b g q k. s .only y b g q (from-read v q k) }))
+    (record { place = s .place; is-place = s .is-place; no-gap = s .no-gap; held = to-read v (s .is-place) (s .held); only = λ p q k. s .only p q (from-read v q k) }))

@@ -1,4 +1,4 @@
--- What each operation on points and rectangles answers, for any numbers whatever: its refusal number (Reading.antt), and beside it what Rect.antt says
+-- What each operation on points and rectangles answers, for any numbers whatever: its refusal number (Reading.antt), and beside it what Zone.antt says
 -- of the operands as they were read, or the result that document 01 states for a refusal. Definitions only.
 use mathlib.Core.Bool.{true}
 use Prim.Native.Nat.{ℕ}
@@ -11,7 +11,8 @@ use Rattle.s2.specs.declared.rect.Rect.{Rect}
 use Rattle.s2.specs.declared.rect.Answer.{Answer}
 use Rattle.s2.specs.declared.rect.PointAnswer.{PointAnswer}
 use Rattle.s2.specs.Reading.{readOne, readTwo, readPoint, readMargins, readWithPoint, readWithMargins}
-use Rattle.s2.specs.Rect.{at, EMPTY, spot, around, pair, empty, full, single, inverted, corner, middle, extent, widened, closure, hull, overlap, meets, strictlyMeets, covers, strictlyCovers, has, strictlyHas, grown, approximates, same}
+use Rattle.s2.specs.Zone as zone
+use Rattle.s2.specs.Zone.{at, EMPTY}
 
 abbrev pub rectAnswer : Rect → Answer
 rectAnswer r = record { refusal = number accepted; value = r }
@@ -42,19 +43,19 @@ isLatLng p = test (readPoint p .refusal) true
 
 -- ---- constructors
 unfoldable pub fromLatLng : LatLng → Answer
-fromLatLng p = let x = readPoint p in rectangle (x .refusal) (spot (x .value))
+fromLatLng p = let x = readPoint p in rectangle (x .refusal) (zone.fromLatLng (x .value))
 
 unfoldable pub fromCenterSize : LatLng → LatLng → Answer
 fromCenterSize p s =
     let x = readPoint p in
     let y = readMargins s in
-    rectangle (firstRefusal (x .refusal) (y .refusal)) (around (x .value) (y .value))
+    rectangle (firstRefusal (x .refusal) (y .refusal)) (zone.fromCenterSize (x .value) (y .value))
 
 unfoldable pub fromPointPair : LatLng → LatLng → Answer
 fromPointPair p q =
     let x = readPoint p in
     let y = readPoint q in
-    rectangle (firstRefusal (x .refusal) (y .refusal)) (pair (x .value) (y .value))
+    rectangle (firstRefusal (x .refusal) (y .refusal)) (zone.fromPointPair (x .value) (y .value))
 
 -- ---- a rectangle alone
 -- an accepted validity test says yes
@@ -62,73 +63,73 @@ unfoldable pub isValid : Rect → YesNo
 isValid r = test (readOne r .refusal) true
 
 unfoldable pub isEmpty : Rect → YesNo
-isEmpty r = let x = readOne r in test (x .refusal) (empty (x .value))
+isEmpty r = let x = readOne r in test (x .refusal) (zone.isEmpty (x .value))
 
 unfoldable pub isFull : Rect → YesNo
-isFull r = let x = readOne r in test (x .refusal) (full (x .value))
+isFull r = let x = readOne r in test (x .refusal) (zone.isFull (x .value))
 
 unfoldable pub isPoint : Rect → YesNo
-isPoint r = let x = readOne r in test (x .refusal) (single (x .value))
+isPoint r = let x = readOne r in test (x .refusal) (zone.isPoint (x .value))
 
 unfoldable pub isInverted : Rect → YesNo
-isInverted r = let x = readOne r in test (x .refusal) (inverted (x .value))
+isInverted r = let x = readOne r in test (x .refusal) (zone.isInverted (x .value))
 
 unfoldable pub vertex : Rect → ℕ → PointAnswer
-vertex r n = let x = readOne r in point (x .refusal) (corner (x .value) n)
+vertex r n = let x = readOne r in point (x .refusal) (zone.vertex (x .value) n)
 
 unfoldable pub center : Rect → PointAnswer
-center r = let x = readOne r in point (x .refusal) (middle (x .value))
+center r = let x = readOne r in point (x .refusal) (zone.center (x .value))
 
 unfoldable pub size : Rect → PointAnswer
-size r = let x = readOne r in point (x .refusal) (extent (x .value))
+size r = let x = readOne r in point (x .refusal) (zone.size (x .value))
 
 unfoldable pub polarClosure : Rect → Answer
-polarClosure r = let x = readOne r in rectangle (x .refusal) (closure (x .value))
+polarClosure r = let x = readOne r in rectangle (x .refusal) (zone.polarClosure (x .value))
 
 -- ---- a rectangle and a point, or margins
 unfoldable pub containsLatLng : Rect → LatLng → YesNo
-containsLatLng r p = let x = readWithPoint r p in test (x .refusal) (has (x .value) (x .beside))
+containsLatLng r p = let x = readWithPoint r p in test (x .refusal) (zone.containsLatLng (x .value) (x .beside))
 
 unfoldable pub interiorContainsLatLng : Rect → LatLng → YesNo
-interiorContainsLatLng r p = let x = readWithPoint r p in test (x .refusal) (strictlyHas (x .value) (x .beside))
+interiorContainsLatLng r p = let x = readWithPoint r p in test (x .refusal) (zone.interiorContainsLatLng (x .value) (x .beside))
 
 unfoldable pub expanded : Rect → LatLng → Answer
-expanded r m = let x = readWithMargins r m in rectangle (x .refusal) (widened (x .value) (x .beside))
+expanded r m = let x = readWithMargins r m in rectangle (x .refusal) (zone.expanded (x .value) (x .beside))
 
 -- growth by a point; refused with 3 it hands the rectangle back as it came
 unfoldable pub add : Rect → LatLng → Answer
 add r p =
     let x = readOne r in
     let y = readPoint p in
-    given (x .refusal) (given (y .refusal) (rectAnswer (grown (x .value) (y .value))) (record { refusal = y .refusal; value = r })) (emptyUnder (x .refusal))
+    given (x .refusal) (given (y .refusal) (rectAnswer (zone.add (x .value) (y .value))) (record { refusal = y .refusal; value = r })) (emptyUnder (x .refusal))
 
 -- ---- two rectangles
 unfoldable pub union : Rect → Rect → Answer
-union r o = let x = readTwo r o in rectangle (x .refusal) (hull (x .left) (x .right))
+union r o = let x = readTwo r o in rectangle (x .refusal) (zone.union (x .left) (x .right))
 
 unfoldable pub intersection : Rect → Rect → Answer
-intersection r o = let x = readTwo r o in rectangle (x .refusal) (overlap (x .left) (x .right))
+intersection r o = let x = readTwo r o in rectangle (x .refusal) (zone.intersection (x .left) (x .right))
 
 unfoldable pub intersects : Rect → Rect → YesNo
-intersects r o = let x = readTwo r o in test (x .refusal) (meets (x .left) (x .right))
+intersects r o = let x = readTwo r o in test (x .refusal) (zone.intersects (x .left) (x .right))
 
 unfoldable pub interiorIntersects : Rect → Rect → YesNo
-interiorIntersects r o = let x = readTwo r o in test (x .refusal) (strictlyMeets (x .left) (x .right))
+interiorIntersects r o = let x = readTwo r o in test (x .refusal) (zone.interiorIntersects (x .left) (x .right))
 
 unfoldable pub contains : Rect → Rect → YesNo
-contains r o = let x = readTwo r o in test (x .refusal) (covers (x .left) (x .right))
+contains r o = let x = readTwo r o in test (x .refusal) (zone.contains (x .left) (x .right))
 
 unfoldable pub interiorContains : Rect → Rect → YesNo
-interiorContains r o = let x = readTwo r o in test (x .refusal) (strictlyCovers (x .left) (x .right))
+interiorContains r o = let x = readTwo r o in test (x .refusal) (zone.interiorContains (x .left) (x .right))
 
-unfoldable pub equal : Rect → Rect → YesNo
-equal r o = let x = readTwo r o in test (x .refusal) (same (x .left) (x .right))
+unfoldable pub eq : Rect → Rect → YesNo
+eq r o = let x = readTwo r o in test (x .refusal) (zone.eq (x .left) (x .right))
 
 unfoldable pub approxEq : Rect → Rect → YesNo
-approxEq r o = let x = readTwo r o in test (x .refusal) (approximates (x .left) (x .right) (at EPSILON EPSILON))
+approxEq r o = let x = readTwo r o in test (x .refusal) (zone.approxEqBy (x .left) (x .right) (at EPSILON EPSILON))
 
 unfoldable pub approxEqBy : Rect → Rect → LatLng → YesNo
 approxEqBy r o e =
     let x = readTwo r o in
     let y = readMargins e in
-    test (firstRefusal (x .refusal) (y .refusal)) (approximates (x .left) (x .right) (y .value))
+    test (firstRefusal (x .refusal) (y .refusal)) (zone.approxEqBy (x .left) (x .right) (y .value))

@@ -1,4 +1,6 @@
-pub mod Rect
+pub mod Zone
 pub mod Reading
 pub mod Answers
 pub mod Places
+pub mod Devices
+pub mod Refusals

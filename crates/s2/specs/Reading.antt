@@ -1,11 +1,10 @@
 -- How the operands of a rectangle's operations are read: in document 01's order, the rectangles from left to right, each with its zeros read, under 1
 -- where a number is out of reach and under 2 where it is not valid; then points (3), then margins, sizes or errors (4).
 -- Definitions only; the laws are in proofs/Readings.antt.
+use mathlib.Core.Path.{_≡_}
 use mathlib.Core.Bool.{Bool, _&&_, cond}
-use lib.Ieee.{lt, le}
-use Rattle.consts.specs.Constants.{PI, NEG-PI}
 use Rattle.consts.specs.Refusal.{number, accepted, outOfReach, notValid, badPoint, badMargin, firstRefusal}
-use Rattle.consts.specs.Reading.{inReach, plain, readNumber}
+use Rattle.consts.specs.Reading.{inReach, plain, NoMinus, readNumber}
 use Rattle.r1.specs.Reading as line
 use Rattle.s1.specs.Reading as circle
 use Rattle.s2.specs.declared.latlng.LatLng.{LatLng}
@@ -14,7 +13,7 @@ use Rattle.s2.specs.declared.reading.One.{One}
 use Rattle.s2.specs.declared.reading.Two.{Two}
 use Rattle.s2.specs.declared.reading.Pair.{Pair}
 use Rattle.s2.specs.declared.reading.With.{With}
-use Rattle.s2.specs.Rect.{NORTH, SOUTH, valid, validPoint}
+use Rattle.s2.specs.Zone.{isValid, isLatLng}
 
 -- a rectangle as it is read: each number with negative zero as zero
 unfoldable pub asRead : Rect → Rect
@@ -24,20 +23,21 @@ asRead r = record { lat = line.plainEnds (r .lat); lng = circle.plainEnds (r .ln
 abbrev pub plainPoint : LatLng → LatLng
 plainPoint p = record { lat = plain (p .lat); lng = plain (p .lng) }
 
+-- no number is negative zero: of a rectangle, and of a point
+abbrev pub NoMinusRect : Rect → Type 0
+NoMinusRect r = line.NoMinusEnds (r .lat) × circle.NoMinusEnds (r .lng)
+
+abbrev pub NoMinusPoint : LatLng → Type 0
+NoMinusPoint p = NoMinus (p .lat) × NoMinus (p .lng)
+
 -- all four numbers are in reach
 unfoldable pub rectInReach : Rect → Bool
 rectInReach r = inReach (r .lat .lo) && inReach (r .lat .hi) && inReach (r .lng .lo) && inReach (r .lng .hi)
 
--- the latitudes rise from pole to pole, and no end of the longitudes is -PI: enough to be valid and in reach (proofs/Readings.antt, `usual-valid`)
-unfoldable pub usual : Rect → Bool
-usual r =
-    le SOUTH (r .lat .lo) && le (r .lat .lo) (r .lat .hi) && le (r .lat .hi) NORTH
-    && lt NEG-PI (r .lng .lo) && le (r .lng .lo) PI && lt NEG-PI (r .lng .hi) && le (r .lng .hi) PI
-
 unfoldable pub readOne : Rect → One
 readOne r =
     record {
-      refusal = cond (rectInReach r) (cond (valid r) (number accepted) (number notValid)) (number outOfReach);
+      refusal = cond (rectInReach r) (cond (isValid r) (number accepted) (number notValid)) (number outOfReach);
       value = asRead r;
     }
 
@@ -45,7 +45,7 @@ unfoldable pub readTwo : Rect → Rect → Two
 readTwo r o = record { refusal = firstRefusal (readOne r .refusal) (readOne o .refusal); left = readOne r .value; right = readOne o .value }
 
 unfoldable pub readPoint : LatLng → Pair
-readPoint p = record { refusal = cond (validPoint p) (number accepted) (number badPoint); value = plainPoint p }
+readPoint p = record { refusal = cond (isLatLng p) (number accepted) (number badPoint); value = plainPoint p }
 
 unfoldable pub readMargins : LatLng → Pair
 readMargins m =

@@ -4,7 +4,7 @@ use crate::latlng::LatLng;
 use crate::latlng::NORTH_POLE_LAT;
 use crate::latlng::SOUTH_POLE_LAT;
 use crate::rect::Rect;
-use crate::sphere;
+use crate::zone;
 use consts::ACCEPTED;
 use consts::BAD_MARGIN;
 use consts::BAD_POINT;
@@ -16,7 +16,8 @@ use r1::interval::Interval as Line;
 use s1::interval::Interval as Circle;
 ghost use mathlib.Core.Path.{_≡_};
 ghost use Rattle.consts.specs.Refusal.{firstRefusal};
-ghost use Rattle.s2.specs.Reading.{usual, rectInReach, asRead, readOne, readTwo, readPoint, readMargins, readWithPoint, readWithMargins};
+ghost use Rattle.s2.specs.Devices.{usual};
+ghost use Rattle.s2.specs.Reading.{rectInReach, asRead, readOne, readTwo, readPoint, readMargins, readWithPoint, readWithMargins};
 
 // A rectangle as it is read.
 pub struct One {
@@ -73,7 +74,7 @@ fn is_usual(r: Rect) -> bool
 fn refusal_of(r: Rect) -> u8
     ensures { λ n. ⌜ n ≡ (readOne r) .refusal ⌝ }
 {
-    if sphere::is_valid(r) & consts::in_reach(r.lat.hi) {
+    if zone::is_valid(r) & consts::in_reach(r.lat.hi) {
         return ACCEPTED;
     }
     if in_reach(r) {
@@ -129,6 +130,9 @@ fn two_refusal(r: Rect, o: Rect) -> u8
 }
 
 // Reads a rectangle: every operation on one comes through here, or through the next.
+// Laws: Readings.one-in, Readings.one-out, Readings.one-not-valid, Readings.valid-reach;
+// Places.from-read, Places.to-read.
+// Ruled out: of [0, 2] by {0}: under 0; of [0, DF40000000000000] by EMPTY: under 2 (it is 1).
 pub fn read_one(r: Rect) -> One
     ensures { λ x. ⌜ x ≡ readOne r ⌝ }
 {
@@ -138,6 +142,9 @@ pub fn read_one(r: Rect) -> One
 }
 
 // Reads two rectangles, the left one first.
+// Laws: Readings.two-in, Promises.both-out-of-reach, Promises.both-not-valid.
+// Ruled out: of [0, 1] by {0} and [0, 1] by {1}: the second on the left; of [0, 2] by {0} and [NaN,
+// 1] by {0}: under 1 (the left one decides: 2).
 pub fn read_two(r: Rect, o: Rect) -> Two
     ensures { λ x. ⌜ x ≡ readTwo r o ⌝ }
 {
@@ -152,13 +159,15 @@ pub fn read_two(r: Rect, o: Rect) -> Two
 }
 
 // Reads a point: every operation on one comes through here.
+// Laws: Readings.point-in, Readings.point-bad.
+// Ruled out: of 0 and -PI: under 3; of 2 and 0: under 0.
 pub fn read_point(p: LatLng) -> Pair
     ensures { λ x. ⌜ x ≡ readPoint p ⌝ }
 {
     let lat = consts::zero_read(p.lat);
     let lng = consts::zero_read(p.lng);
     let value = LatLng { lat, lng };
-    if sphere::is_latlng(p) {
+    if zone::is_latlng(p) {
         Pair {
             refusal: ACCEPTED,
             value,
@@ -172,6 +181,8 @@ pub fn read_point(p: LatLng) -> Pair
 }
 
 // Reads two margins, sizes or errors, the latitude's and the longitude's.
+// Laws: Readings.margins-in, Promises.expanded-bad-margin.
+// Ruled out: of 9 and 9: under 4; of 0 and infinity: under 0.
 pub fn read_margins(m: LatLng) -> Pair
     ensures { λ x. ⌜ x ≡ readMargins m ⌝ }
 {
@@ -186,6 +197,9 @@ pub fn read_margins(m: LatLng) -> Pair
 }
 
 // Reads a rectangle, then a point.
+// Laws: Readings.with-point-in, Promises.with-point-not-valid, Promises.with-point-bad-point.
+// Ruled out: of [0, 1] by {0} and the point 2, 0: under 0; of [0, 2] by {0} and that point: under
+// 3.
 pub fn read_with_point(r: Rect, p: LatLng) -> With
     ensures { λ x. ⌜ x ≡ readWithPoint r p ⌝ }
 {
@@ -202,6 +216,9 @@ pub fn read_with_point(r: Rect, p: LatLng) -> With
 }
 
 // Reads a rectangle, then two margins.
+// Laws: Readings.with-margins-in, Promises.expanded-accepted.
+// Ruled out: of [0, 1] by {0} and margins 9 and 9: under 4; of [0, 2] by {0} and infinite margins:
+// under 4.
 pub fn read_with_margins(r: Rect, m: LatLng) -> With
     ensures { λ x. ⌜ x ≡ readWithMargins r m ⌝ }
 {

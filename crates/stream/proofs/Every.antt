@@ -22,11 +22,12 @@ use Rattle.s2.specs.declared.rect.Rect.{Rect}
 use Rattle.s2.specs.Places.{Valid}
 use Rattle.s2.specs.Reading.{rectInReach}
 use Rattle.s2.proofs.Readings.{reach-of}
-use Rattle.region.specs.CommonRegion.{All}
-use Rattle.region.specs.Answers.{numbers}
 use Rattle.region.proofs.Unique.{unique}
+use Rattle.lists.specs.Inputs.{inTurn}
+use Rattle.lists.specs.Lists.{All}
+use Rattle.lists.specs.Rects.{numbersOf}
 use Rattle.text.specs.Text.{piecesText, refusedText}
-use Rattle.stream.specs.Records.{wordAt, doubleAt, whole, rectOf, numberOf}
+use Rattle.stream.specs.Records.{wordAt, doubleAt, wholeRecord, rectOf, numberOf}
 use Rattle.stream.specs.Bytes.{littleEndian, doubleBytes, recordBytes, streamBytes}
 use Rattle.stream.specs.Answers.{answerText}
 use Rattle.stream.proofs.Records.{whole-long, whole-mark, taken-whole, taken-valid}
@@ -165,7 +166,7 @@ pub data IsStream (n : ℕ) (s : List ℕ) : Type 0 where
   beyond : (rs : List Rect) (t : List ℕ) → All Valid rs → length rs ≡ n → 0 < length t → s ≡ streamBytes rs ++ t → IsStream n s
 
 put : (n : ℕ) (r : Rect) (s t : List ℕ) → Valid r → recordBytes r ++ t ≡ s → IsStream n t → IsStream (suc n) s
-unfolding streamBytes
+unfolding streamBytes inTurn
 put n r s t w e (records rs v h i) = records (r ∷ rs) (w, v) (omega arith) (sym e ∙ ap (λ (u : List ℕ). recordBytes r ++ u) i)
 put n r s t w e (fault rs u v h k f i) =
     fault (r ∷ rs) u (w, v) (omega arith) k f (sym e ∙ ap (λ (u : List ℕ). recordBytes r ++ u) i ∙ sym (append-assoc (recordBytes r) (streamBytes rs) u))
@@ -173,7 +174,7 @@ put n r s t w e (beyond rs u v h k i) =
     beyond (r ∷ rs) u (w, v) (omega arith) k (sym e ∙ ap (λ (u : List ℕ). recordBytes r ++ u) i ∙ sym (append-assoc (recordBytes r) (streamBytes rs) u))
 
 is-stream : (n : ℕ) (s : List ℕ) → All Byte s → IsStream n s
-unfolding streamBytes
+unfolding streamBytes inTurn
 is-stream zero [] a = records [] tt (omega arith) refl
 is-stream zero (b ∷ s) a = beyond [] (b ∷ s) tt refl (omega arith) refl
 is-stream (suc n) [] a = records [] tt (omega arith) refl
@@ -195,15 +196,15 @@ pub data IsAnswer (s t : List ℕ) : Type 0 where
   -- the first fault decides: after fewer than 512 of them the number of the record that follows
   first-refused : (rs : List Rect) (u : List ℕ) → All Valid rs → length rs < 512 → 0 < length u → (numberOf u ≡ number accepted → ⊥) → s ≡ streamBytes rs ++ u → t ≡ refusedText (numberOf u) → IsAnswer s t
   -- a 513th whole record with a right mark gives 5, and what is no record there 7
-  too-many : (rs : List Rect) (u : List ℕ) → All Valid rs → length rs ≡ 512 → 0 < length u → whole u ≡ true → s ≡ streamBytes rs ++ u → t ≡ refusedText (number badList) → IsAnswer s t
-  no-more : (rs : List Rect) (u : List ℕ) → All Valid rs → length rs ≡ 512 → 0 < length u → whole u ≡ false → s ≡ streamBytes rs ++ u → t ≡ refusedText (number badRecord) → IsAnswer s t
+  too-many : (rs : List Rect) (u : List ℕ) → All Valid rs → length rs ≡ 512 → 0 < length u → wholeRecord u ≡ true → s ≡ streamBytes rs ++ u → t ≡ refusedText (number badList) → IsAnswer s t
+  no-more : (rs : List Rect) (u : List ℕ) → All Valid rs → length rs ≡ 512 → 0 < length u → wholeRecord u ≡ false → s ≡ streamBytes rs ++ u → t ≡ refusedText (number badRecord) → IsAnswer s t
 
 answer-of : (s : List ℕ) → IsStream 512 s → IsAnswer s (answerText s)
 answer-of s (records rs v h e) = pieces rs v h e (rw e (common-answer rs v h))
 answer-of s (fault rs u v h k f e) = first-refused rs u v h k f e (ap answerText e ∙ first-fault rs v h u k f)
-answer-of s (beyond rs u v h k e) = go (whole u) refl
+answer-of s (beyond rs u v h k e) = go (wholeRecord u) refl
   where
-    go : (w : Bool) → whole u ≡ w → IsAnswer s (answerText s)
+    go : (w : Bool) → wholeRecord u ≡ w → IsAnswer s (answerText s)
     go true w = too-many rs u v h k w e (ap answerText e ∙ one-too-many rs v h u k w)
     go false w = no-more rs u v h k w e (ap answerText e ∙ no-record rs v h u k w)
 
@@ -219,7 +220,7 @@ every-input s a = rw (settled s) (every-answer s a)
 pub one-answer : (s t : List ℕ) → IsAnswer s t → t ≡ answerText s
 one-answer s t (pieces rs v h e x) =
     let y = common-answer rs v h in
-    x .is-text ∙ ap (λ (l : List Rect). piecesText (numbers l)) (unique rs (x .listed) (y .listed) (x .is-common) (y .is-common)) ∙ sym (y .is-text) ∙ ap answerText (sym e)
+    x .is-text ∙ ap (λ (l : List Rect). piecesText (numbersOf l)) (unique rs (x .listed) (y .listed) (x .is-common) (y .is-common)) ∙ sym (y .is-text) ∙ ap answerText (sym e)
 one-answer s t (first-refused rs u v h k f e x) = x ∙ sym (first-fault rs v h u k f) ∙ ap answerText (sym e)
 one-answer s t (too-many rs u v h k w e x) = x ∙ sym (one-too-many rs v h u k w) ∙ ap answerText (sym e)
 one-answer s t (no-more rs u v h k w e x) = x ∙ sym (no-record rs v h u k w) ∙ ap answerText (sym e)

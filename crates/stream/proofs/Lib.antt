@@ -4,3 +4,4 @@ pub mod Answers
 pub mod Laws
 pub mod Settled
 pub mod Every
+pub mod Promises

@@ -17,35 +17,36 @@ use Rattle.s2.specs.declared.rect.Rect.{Rect}
 use Rattle.s2.specs.Places.{Valid}
 use Rattle.s2.specs.Reading.{asRead, readOne}
 use Rattle.s2.proofs.Readings.{valid-read}
-use Rattle.region.specs.CommonRegion.{All}
-use Rattle.region.specs.Answers.{rectsOf, numbers, asReadAll, firstRefused}
-use Rattle.region.proofs.Accepted.{all-valid}
+use Rattle.lists.specs.Lists.{All}
+use Rattle.lists.specs.Rects.{rectsOf, numbersOf, asReadAll}
+use Rattle.lists.specs.Refused.{firstNumber}
+use Rattle.lists.proofs.Doubles.{all-valid}
 use Rattle.region.proofs.Listed.{read-all}
 use Rattle.stream.specs.declared.record.Record.{Record}
 use Rattle.stream.specs.declared.record.Record.the-variants.{Rectangle, Refused}
-use Rattle.stream.specs.Records.{isMark, wordAt, doubleAt, whole, rectOf, numberOf, valuesOf, recordNumber, recordValues, IsRecord}
+use Rattle.stream.specs.Records.{isMark, wordAt, doubleAt, wholeRecord, rectOf, numberOf, valuesOf, recordNumber, recordValues, IsRecord}
 
 -- ---- a whole record
-pub whole-long : (s : List ℕ) → whole s ≡ true → 34 ≤ length s
-unfolding whole
+pub whole-long : (s : List ℕ) → wholeRecord s ≡ true → 34 ≤ length s
+unfolding wholeRecord
 whole-long s e = leb-true 34 (length s) (and-l _ _ e)
 
-pub whole-mark : (s : List ℕ) → whole s ≡ true → (getD s 0 0 ≡ 0x52) × (getD s 1 0 ≡ 0x31)
-unfolding whole isMark
+pub whole-mark : (s : List ℕ) → wholeRecord s ≡ true → (getD s 0 0 ≡ 0x52) × (getD s 1 0 ≡ 0x31)
+unfolding wholeRecord isMark
 whole-mark s e =
     let m = and-r (leb 34 (length s)) _ e in
     (eqb-true (getD s 0 0) 0x52 (and-l _ _ m), eqb-true (getD s 1 0) 0x31 (and-r (eqb (getD s 0 0) 0x52) _ m))
 
 -- ---- its number
 pub short-refused : (s : List ℕ) → length s < 34 → numberOf s ≡ number badRecord
-unfolding numberOf whole
+unfolding numberOf wholeRecord
 short-refused s h = simp (lt-leb 34 (length s) h)
 
 pub mark-refused : (s : List ℕ) → isMark (getD s 0 0) (getD s 1 0) ≡ false → numberOf s ≡ number badRecord
-unfolding numberOf whole
+unfolding numberOf wholeRecord
 mark-refused s h = rw (and-off (leb 34 (length s)) (isMark (getD s 0 0) (getD s 1 0)) h) refl
 
-pub whole-number : (s : List ℕ) → whole s ≡ true → numberOf s ≡ readOne (rectOf s) .refusal
+pub whole-number : (s : List ℕ) → wholeRecord s ≡ true → numberOf s ≡ readOne (rectOf s) .refusal
 unfolding numberOf
 whole-number s h = simp h
 
@@ -59,9 +60,9 @@ unfolding valuesOf
 no-values s h = simp (ne-eqb (numberOf s) 0 h)
 
 -- ---- one that is taken is whole, and its rectangle valid
-pub taken-whole : (s : List ℕ) → numberOf s ≡ number accepted → (whole s ≡ true) × (readOne (rectOf s) .refusal ≡ number accepted)
+pub taken-whole : (s : List ℕ) → numberOf s ≡ number accepted → (wholeRecord s ≡ true) × (readOne (rectOf s) .refusal ≡ number accepted)
 unfolding numberOf
-taken-whole s h = go (whole s) h
+taken-whole s h = go (wholeRecord s) h
   where
     go : (w : Bool) → cond w (readOne (rectOf s) .refusal) (number badRecord) ≡ number accepted → (w ≡ true) × (readOne (rectOf s) .refusal ≡ number accepted)
     go true e = (refl, e)
@@ -76,10 +77,10 @@ double-fits s at = go (nanBits binary64 (wordAt s at))
     go false = ofBits-fits binary64 (wordAt s at)
 
 pub taken-valid : (s : List ℕ) → numberOf s ≡ number accepted → Valid (rectOf s)
-unfolding rectOf numbers rectsOf firstRefused firstRefusal
-taken-valid s h = all-valid (numbers (rectOf s ∷ [])) doubles (simp (taken-whole s h .1)) .0
+unfolding rectOf numbersOf rectsOf firstNumber firstRefusal
+taken-valid s h = all-valid (numbersOf (rectOf s ∷ [])) doubles (simp (taken-whole s h .1)) .0
   where
-    doubles : (i : ℕ) → T (fits binary64 (getD (numbers (rectOf s ∷ [])) i nan))
+    doubles : (i : ℕ) → T (fits binary64 (getD (numbersOf (rectOf s ∷ [])) i nan))
     doubles zero = double-fits s 2
     doubles (suc zero) = double-fits s 10
     doubles (suc (suc zero)) = double-fits s 18
@@ -106,6 +107,14 @@ record-plain s x i = subst (All Plain) (sym (i .values-are)) (plain-values s)
 pub is-taken : (s : List ℕ) (x : Record) (r : Rect) → IsRecord s x → x ≡ Rectangle r → (numberOf s ≡ number accepted) × (valuesOf s ≡ r ∷ [])
 unfolding recordNumber recordValues
 is-taken s x r i e = (sym (i .number-is) ∙ ap recordNumber e, sym (i .values-are) ∙ ap recordValues e)
+
+first-of : Rect → List Rect → Rect
+first-of r [] = r
+first-of r (o ∷ l) = o
+
+pub taken-is : (s : List ℕ) (x : Record) (r : Rect) → IsRecord s x → x ≡ Rectangle r → asRead (rectOf s) ≡ r
+unfolding first-of
+taken-is s x r i e = let t = is-taken s x r i e in ap (first-of r) (sym (taken-values s (t .0)) ∙ t .1)
 
 pub is-refused : (s : List ℕ) (x : Record) (n : ℕ) → IsRecord s x → x ≡ Refused n → numberOf s ≡ number accepted → ⊥
 unfolding recordValues

@@ -1,33 +1,28 @@
--- How a stream is read, record by record: what one turn of the loop does to the numbers gathered so far and the bytes that are left, and how it ends.
--- Each law is by the definition's own cases. Assumes nothing.
+-- The loop that reads a stream: what one record more does to the numbers gathered so far and the bytes that are left, and how it ends. Each turn is the input's own
+-- (lists, Inputs.antt); here it is said of the numbers in the list and of the places 34 k. Assumes nothing.
 use mathlib.Core.Path.{_≡_, refl, sym, ap, _∙_, subst}
 use mathlib.Core.Bool.{Bool, true, false, cond}
-use mathlib.Core.List.{List, [], _∷_, _++_, append-assoc, append-nil}
-use Prim.Native.Nat.{ℕ, zero, suc, _+_, _-_, _*_, _≤_, _<_}
+use mathlib.Core.List.{List, [], _∷_, _++_}
+use Prim.Native.Nat.{ℕ, _+_, _-_, _*_, _≤_, _<_}
 use native.Mathlib.Omega.{arith}
-use native.Mathlib.Numerals.{add-one}
+use borrow.Author.Tests.{le-leb, lt-leb, leb-true, leb-false, ne-eqb}
 use lib.ListN.{length, take, drop, length-append, length-drop}
-use lib.Seq.{drop-drop, sets, sets-eq, length-sets, take-at, take-all, length-take-le}
-use borrow.Author.Tests.{ne-eqb}
-use lib.Dec.{eqb}
+use lib.Seq.{drop-drop, take-all}
+use lib.Dec.{leb}
 use lib.Ieee.{Float}
+use Rattle.consts.specs.Refusal.{number, badList, badRecord}
 use Rattle.s2.specs.declared.rect.Rect.{Rect}
-use Rattle.region.specs.Answers.{numbers}
+use Rattle.s2.specs.Reading.{asRead}
+use Rattle.lists.specs.Rects.{putRect, numbersOf}
+use Rattle.lists.proofs.Inputs as reading
+use Rattle.lists.proofs.RectLists.{sets-take, four-stores, put-stores}
 use Rattle.stream.specs.declared.record.Record.{Record}
 use Rattle.stream.specs.declared.record.Record.the-variants.{Rectangle, Refused}
 use Rattle.stream.specs.declared.gather.Gathered.{Gathered}
-use Rattle.stream.specs.Records.{whole, numberOf, valuesOf, recordNumber, IsRecord}
-use Rattle.stream.specs.Stream.{Stream, Numbers, Fault, after, next, overNumber, readFrom, streamOf, placed, endedWith, gathered}
-use Rattle.stream.proofs.Records.{is-taken, is-refused}
-
--- ---- lists of numbers in front
-pub after-none : (x : Stream) → after [] x ≡ x
-after-none (Numbers l) = refl
-after-none (Fault n) = refl
-
-pub after-after : (a b : List Float) (x : Stream) → after a (after b x) ≡ after (a ++ b) x
-after-after a b (Numbers l) = ap Numbers (sym (append-assoc a b l))
-after-after a b (Fault n) = refl
+use Rattle.stream.specs.Records.{wholeRecord, rectOf, numberOf, recordNumber, IsRecord}
+use Rattle.stream.specs.Stream.{Numbers, Fault, overNumber, RECORDS, toStream, streamOf}
+use Rattle.stream.specs.Inside.{endedWith, gathered}
+use Rattle.stream.proofs.Records.{is-taken, taken-is, is-refused}
 
 -- ---- one record
 -- the part of a slice from a place on
@@ -41,118 +36,112 @@ IsRead x s k = IsRecord (take (length s - 34 * k) (drop (34 * k) s)) x
 is-read : (x : Record) (s : List ℕ) (k : ℕ) → IsRead x s k → IsRecord (drop (34 * k) s) x
 is-read x s k i = subst (λ (t : List ℕ). IsRecord t x) (rest-of s (34 * k)) i
 
-pub one-more : (n : ℕ) (t : List ℕ) → 0 < length t → readFrom (suc n) t ≡ next (numberOf t) (valuesOf t) (readFrom n (drop 34 t))
-unfolding readFrom
-one-more n [] h = absurd (omega arith)
-one-more n (b ∷ t) h = refl
-
--- ---- what stands after the last record that is taken
-pub over-none : (s : List ℕ) → length s ≡ 0 → 0 ≡ overNumber s
+-- ---- what goes on after the last record that is taken
+pub over-whole : (s : List ℕ) → wholeRecord s ≡ true → 5 ≡ overNumber s
 unfolding overNumber
-over-none [] e = refl
-over-none (b ∷ s) e = absurd (omega arith)
+over-whole s e = simp e
 
-pub over-whole : (s : List ℕ) → (length s ≡ 0 → ⊥) → whole s ≡ true → 5 ≡ overNumber s
+pub over-other : (s : List ℕ) → wholeRecord s ≡ false → 7 ≡ overNumber s
 unfolding overNumber
-over-whole [] h e = absurd (h refl)
-over-whole (b ∷ s) h e = rw e refl
+over-other s e = simp e
 
-pub over-other : (s : List ℕ) → (length s ≡ 0 → ⊥) → whole s ≡ false → 7 ≡ overNumber s
+over-some : (s : List ℕ) → overNumber s ≡ 0 → ⊥
 unfolding overNumber
-over-other [] h e = absurd (h refl)
-over-other (b ∷ s) h e = rw e refl
+over-some s = go (wholeRecord s)
+  where
+    go : (w : Bool) → cond w (number badList) (number badRecord) ≡ 0 → ⊥
+    go true e = omega arith
+    go false e = omega arith
+
+-- ---- one rectangle more in the list
+numbers-more : (rs : List Rect) (r : Rect) → numbersOf rs ++ numbersOf (r ∷ []) ≡ numbersOf (rs ++ (r ∷ []))
+unfolding numbersOf
+numbers-more [] r = refl
+numbers-more (o ∷ rs) r = ap (λ (m : List Float). o .lat .lo ∷ (o .lat .hi ∷ (o .lng .lo ∷ (o .lng .hi ∷ m)))) (numbers-more rs r)
+
+put-more : (i : ℕ) (r : Rect) (l : List Float) → i + 4 ≤ length l → take (i + 4) (putRect i r l) ≡ take i l ++ numbersOf (r ∷ [])
+unfolding numbersOf
+put-more i r l h =
+    ap (take (i + 4)) (put-stores i r l h ∙ four-stores l i (r .lat .lo) (r .lat .hi) (r .lng .lo) (r .lng .hi))
+    ∙ sets-take (r .lat .lo ∷ (r .lat .hi ∷ (r .lng .lo ∷ (r .lng .hi ∷ [])))) l i h
 
 -- ---- the loop: the list l holds the numbers of the first k records, and the rest of s is still to be read
-abbrev pub Held : List ℕ → List Float → ℕ → Type 0
-Held s l k = streamOf s ≡ after (take (4 * k) l) (readFrom (512 - k) (drop (34 * k) s))
+pub record Held (s : List ℕ) (l : List Float) (k : ℕ) : Type 0 where
+  pub rects : List Rect
+  pub many : length rects ≡ k
+  pub are : take (4 * k) l ≡ numbersOf rects
+  pub rest : reading.Held RECORDS s rects (drop (34 * k) s)
 
 pub starts : (s : List ℕ) (l : List Float) → Held s l 0
-unfolding streamOf
-starts s l = sym (after-none (readFrom 512 s))
+unfolding numbersOf
+starts s l = record { rects = []; many = refl; are = refl; rest = reading.starts RECORDS s }
 
-less-one : (k : ℕ) → k < 512 → 512 - k ≡ suc (512 - (k + 1))
-less-one k h = omega arith
+module _ (s : List ℕ) (l : List Float) (k : ℕ) (held : Held s l k) where
+  left-some : 34 * k < length s → 0 < length (drop (34 * k) s)
+  left-some h = omega (arith, length-drop (34 * k) s)
 
-left-some : (s : List ℕ) (k : ℕ) → 34 * k < length s → 0 < length (drop (34 * k) s)
-left-some s k h = omega (arith, length-drop (34 * k) s)
+  -- one more record
+  pub good : (l' : List Float) (x : Record) (r : Rect) → k < 512 → 34 * k < length s → length l ≡ 2048 → IsRead x s k → x ≡ Rectangle r → l' ≡ putRect (4 * k) r l → Held s l' (k + 1)
+  good l' x r h m e is case put-so =
+      let t : List ℕ = drop (34 * k) s in
+      let i = is-taken t x r (is-read x s k is) case in
+      let own : asRead (rectOf t) ≡ r = taken-is t x r (is-read x s k is) case in
+      let next : drop 34 t ≡ drop (34 * (k + 1)) s = drop-drop 34 (34 * k) s ∙ ap (λ (n : ℕ). drop n s) (more k) in
+      let g = reading.good RECORDS s (held .rects) t (held .rest) (omega (arith, held .many)) (left-some m) (i .0) in
+      record {
+        rects = held .rects ++ (r ∷ []);
+        many = length-append (held .rects) (r ∷ []) ∙ ap (λ (n : ℕ). n + 1) (held .many);
+        are = ap (λ (n : ℕ). take n l') (fours k) ∙ ap (take (4 * k + 4)) put-so ∙ put-more (4 * k) r l (omega (arith, e))
+            ∙ ap (λ (m : List Float). m ++ numbersOf (r ∷ [])) (held .are) ∙ numbers-more (held .rects) r;
+        rest = subst (λ (u : List ℕ). reading.Held RECORDS s (held .rects ++ (r ∷ [])) u) next
+            (subst (λ (o : Rect). reading.Held RECORDS s (held .rects ++ (o ∷ [])) (drop 34 t)) own g);
+      }
+    where
+      more : (k : ℕ) → 34 * k + 34 ≡ 34 * (k + 1)
+      more k = omega arith
 
--- one more record
-turned : (s : List ℕ) (l : List Float) (k : ℕ) → k < 512 → 34 * k < length s → Held s l k →
-    streamOf s ≡ after (take (4 * k) l) (next (numberOf (drop (34 * k) s)) (valuesOf (drop (34 * k) s)) (readFrom (512 - (k + 1)) (drop (34 * (k + 1)) s)))
-turned s l k h m held =
-    let t : List ℕ = drop (34 * k) s in
-    held
-    ∙ ap (after (take (4 * k) l))
-    (ap (λ (n : ℕ). readFrom n t) (less-one k h)
-    ∙ one-more (512 - (k + 1)) t (left-some s k m)
-    ∙ ap (λ (u : List ℕ). next (numberOf t) (valuesOf t) (readFrom (512 - (k + 1)) u)) (drop-drop 34 (34 * k) s ∙ ap (λ (n : ℕ). drop n s) (more k)))
-  where
-    more : (k : ℕ) → 34 * k + 34 ≡ 34 * (k + 1)
-    more k = omega arith
+      fours : (k : ℕ) → 4 * (k + 1) ≡ 4 * k + 4
+      fours k = omega arith
 
-placed-is : (at : ℕ) (r : Rect) (l : List Float) → placed at r l ≡ sets l at (numbers (r ∷ []))
-unfolding placed numbers
-placed-is at r l = rw (add-one at, two at, three at) refl
-  where
-    two : (n : ℕ) → n + 2 ≡ suc (suc n)
-    two n = omega arith
+  -- a fault
+  pub bad : (x : Record) (n m : ℕ) → k < 512 → 34 * k < length s → IsRead x s k → x ≡ Refused n → m ≡ recordNumber x → streamOf s ≡ gathered (record { refusal = m; count = 0 }) l
+  unfolding streamOf
+  bad x n m h at is case number-so =
+      let t : List ℕ = drop (34 * k) s in
+      let i = is-read x s k is in
+      let z = is-refused t x n i case in
+      ap toStream (reading.bad RECORDS s (held .rects) t (held .rest) (omega (arith, held .many)) (left-some at) z)
+      ∙ sym (rw (number-so ∙ i .number-is, ne-eqb (numberOf t) 0 z) refl)
 
-    three : (n : ℕ) → n + 3 ≡ suc (suc (suc n))
-    three n = omega arith
+  -- nothing is left
+  pub stops : length s ≤ 34 * k → streamOf s ≡ gathered (record { refusal = 0; count = k }) l
+  unfolding streamOf
+  stops h =
+      ap toStream (reading.ends RECORDS s (held .rects) (drop (34 * k) s) (held .rest) (omega (arith, length-drop (34 * k) s)))
+      ∙ ap Numbers (sym (held .are))
 
-taken : (k : ℕ) (r : Rect) (l : List Float) → k < 512 → length l ≡ 2048 → take (4 * (k + 1)) (placed (4 * k) r l) ≡ take (4 * k) l ++ numbers (r ∷ [])
-unfolding numbers
-taken k r l h e =
-    ap (take (4 * (k + 1))) (placed-is (4 * k) r l ∙ sets-eq (numbers (r ∷ [])) l (4 * k) (omega (arith, e)))
-    ∙ take-at (take (4 * k) l ++ numbers (r ∷ [])) (drop (4 * k + 4) l) (4 * (k + 1)) (omega (arith, e, length-append (take (4 * k) l) (numbers (r ∷ [])), length-take-le (4 * k) l (omega (arith, e))))
+  -- 512 records are read
+  beyond : k ≡ 512 → 34 * k < length s → streamOf s ≡ Fault (overNumber (drop (34 * k) s))
+  unfolding streamOf
+  beyond e h = ap toStream (reading.over RECORDS s (held .rects) (drop (34 * k) s) (held .rest) (held .many ∙ e) (left-some h))
 
-pub good : (s : List ℕ) (l l' : List Float) (k : ℕ) (x : Record) (r : Rect) → k < 512 → 34 * k < length s → length l ≡ 2048 → IsRead x s k → x ≡ Rectangle r → l' ≡ placed (4 * k) r l →
-    Held s l k → Held s l' (k + 1)
-good s l l' k x r h m e is case placed-so held =
-    let rest : Stream = readFrom (512 - (k + 1)) (drop (34 * (k + 1)) s) in
-    let i = is-taken (drop (34 * k) s) x r (is-read x s k is) case in
-    turned s l k h m held
-    ∙ rw (i .0, i .1) refl
-    ∙ after-after (take (4 * k) l) (numbers (r ∷ [])) rest
-    ∙ ap (λ (p : List Float). after p rest) (sym (taken k r l h e) ∙ ap (take (4 * (k + 1))) (sym placed-so))
+  pub full : k ≡ 512 → streamOf s ≡ gathered (endedWith k s) l
+  unfolding endedWith
+  full e = go (leb (length s) (34 * k)) (leb-true (length s) (34 * k)) (leb-false (length s) (34 * k))
+    where
+      go : (t : Bool) → (t ≡ true → length s ≤ 34 * k) → (t ≡ false → 34 * k < length s)
+          → streamOf s ≡ gathered (record { refusal = cond t 0 (overNumber (drop (34 * k) s)); count = k }) l
+      go true f g = stops (f refl)
+      go false f g = beyond e (g refl) ∙ sym (rw (ne-eqb (overNumber (drop (34 * k) s)) 0 (over-some (drop (34 * k) s))) refl)
 
-pub placed-length : (l l' : List Float) (at n : ℕ) (r : Rect) → l' ≡ placed at r l → length l ≡ n → length l' ≡ n
-placed-length l l' at n r e h = ap length (e ∙ placed-is at r l) ∙ length-sets l at (numbers (r ∷ [])) ∙ h
-
-pub bad : (s : List ℕ) (l : List Float) (k : ℕ) (x : Record) (n m : ℕ) → k < 512 → 34 * k < length s → IsRead x s k → x ≡ Refused n → m ≡ recordNumber x →
-    Held s l k → streamOf s ≡ gathered (record { refusal = m; count = 0 }) l
-bad s l k x n m h at is case number-so held =
-    let i = is-read x s k is in
-    turned s l k h at held
-    ∙ sym (rw (number-so ∙ i .number-is, ne-eqb (numberOf (drop (34 * k) s)) 0 (is-refused (drop (34 * k) s) x n i case)) refl)
-
-none-left : (n : ℕ) (p : List Float) (t : List ℕ) → 0 < n → length t ≡ 0 → after p (readFrom n t) ≡ Numbers p
-unfolding readFrom
-none-left zero p t h e = absurd (omega arith)
-none-left (suc n) p [] h e = ap Numbers (append-nil p)
-none-left (suc n) p (b ∷ t) h e = absurd (omega arith)
-
-pub stops : (s : List ℕ) (l : List Float) (k : ℕ) → k < 512 → length s ≤ 34 * k → Held s l k → streamOf s ≡ gathered (record { refusal = 0; count = k }) l
-stops s l k h m held = held ∙ none-left (512 - k) (take (4 * k) l) (drop (34 * k) s) (omega arith) (omega (arith, length-drop (34 * k) s))
-
-pub full : (s : List ℕ) (l : List Float) (k : ℕ) → k ≡ 512 → Held s l k → streamOf s ≡ gathered (endedWith k s) l
-unfolding readFrom endedWith
-full s l k e held = held ∙ ap (λ (n : ℕ). after (take (4 * k) l) (readFrom n (drop (34 * k) s))) (none e) ∙ go (overNumber (drop (34 * k) s)) (eqb (overNumber (drop (34 * k) s)) 0)
-  where
-    none : k ≡ 512 → 512 - k ≡ 0
-    none e = omega arith
-
-    go : (n : ℕ) (b : Bool) → after (take (4 * k) l) (cond b (Numbers []) (Fault n)) ≡ cond b (Numbers (take (4 * k) l)) (Fault n)
-    go n true = ap Numbers (append-nil (take (4 * k) l))
-    go n false = refl
-
+-- ---- how it ended
 pub ended-none : (s : List ℕ) (k : ℕ) → length s ≤ 34 * k → record { refusal = 0; count = k } ≡ endedWith k s
 unfolding endedWith
-ended-none s k h = ap (λ (n : ℕ). record { refusal = n; count = k }) (over-none (drop (34 * k) s) (omega (arith, length-drop (34 * k) s)))
+ended-none s k h = simp (le-leb (length s) (34 * k) h)
 
-pub ended-some : (s : List ℕ) (k n : ℕ) → n ≡ overNumber (take (length s - 34 * k) (drop (34 * k) s)) → record { refusal = n; count = k } ≡ endedWith k s
+pub ended-some : (s : List ℕ) (k n : ℕ) → 34 * k < length s → n ≡ overNumber (take (length s - 34 * k) (drop (34 * k) s)) → record { refusal = n; count = k } ≡ endedWith k s
 unfolding endedWith
-ended-some s k n e = ap (λ (n : ℕ). record { refusal = n; count = k }) (e ∙ ap overNumber (rest-of s (34 * k)))
+ended-some s k n h e = simp (lt-leb (length s) (34 * k) h) (ap (λ (n : ℕ). record { refusal = n; count = k }) (e ∙ ap overNumber (rest-of s (34 * k))))
 
 pub ended-few : (s : List ℕ) (k : ℕ) (g : Gathered) → g ≡ endedWith k s → k ≤ 512 → g .count ≤ 512
 unfolding endedWith

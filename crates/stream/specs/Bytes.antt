@@ -5,6 +5,7 @@ use Prim.Native.Nat.{ℕ, zero, suc, _/_, _%_}
 use lib.Ieee.{Float}
 use Rattle.bits.specs.Pattern.{toPattern}
 use Rattle.s2.specs.declared.rect.Rect.{Rect}
+use Rattle.lists.specs.Inputs.{inTurn}
 
 -- the k bytes of a word, the lowest first
 unfoldable pub littleEndian : ℕ → ℕ → List ℕ
@@ -18,5 +19,4 @@ unfoldable pub recordBytes : Rect → List ℕ
 recordBytes r = 0x52 ∷ (0x31 ∷ (doubleBytes (r .lat .lo) ++ (doubleBytes (r .lat .hi) ++ (doubleBytes (r .lng .lo) ++ doubleBytes (r .lng .hi)))))
 
 unfoldable pub streamBytes : List Rect → List ℕ
-streamBytes [] = []
-streamBytes (r ∷ l) = recordBytes r ++ streamBytes l
+streamBytes rs = inTurn recordBytes rs

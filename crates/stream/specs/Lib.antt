@@ -2,3 +2,4 @@ pub mod Records
 pub mod Stream
 pub mod Answers
 pub mod Bytes
+pub mod Inside

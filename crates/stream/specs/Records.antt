@@ -12,15 +12,12 @@ use Rattle.consts.specs.Refusal.{number, accepted, badRecord, given}
 use Rattle.r1.specs.Line as line
 use Rattle.s1.specs.Circle as circle
 use Rattle.s2.specs.declared.rect.Rect.{Rect}
-use Rattle.s2.specs.Rect.{box}
+use Rattle.s2.specs.Zone.{box}
 use Rattle.s2.specs.Reading.{asRead, readOne}
 use Rattle.stream.specs.declared.record.Record.{Record}
 use Rattle.stream.specs.declared.record.Record.the-variants.{Rectangle, Refused}
 
 -- the mark
-unfoldable pub isSecond : ℕ → Bool
-isSecond b = eqb b 0x31
-
 unfoldable pub isMark : ℕ → ℕ → Bool
 isMark a b = eqb a 0x52 && eqb b 0x31
 
@@ -38,8 +35,8 @@ unfoldable pub doubleAt : List ℕ → ℕ → Float
 doubleAt s at = ofPattern (wordAt s at)
 
 -- a whole record with a right mark stands at the start of s
-unfoldable pub whole : List ℕ → Bool
-whole s = leb 34 (length s) && isMark (getD s 0 0) (getD s 1 0)
+unfoldable pub wholeRecord : List ℕ → Bool
+wholeRecord s = leb 34 (length s) && isMark (getD s 0 0) (getD s 1 0)
 
 -- the rectangle of a record, its numbers as they came
 unfoldable pub rectOf : List ℕ → Rect
@@ -48,7 +45,7 @@ rectOf s = box (line.ends (doubleAt s 2) (doubleAt s 10)) (circle.ends (doubleAt
 -- ---- document 01's number and values for the record at the start of s
 -- 7 where it is short or has a wrong mark; else 1, 2 or 0, as every operation reads its rectangle
 unfoldable pub numberOf : List ℕ → ℕ
-numberOf s = cond (whole s) (readOne (rectOf s) .refusal) (number badRecord)
+numberOf s = cond (wholeRecord s) (readOne (rectOf s) .refusal) (number badRecord)
 
 -- under 0 the one rectangle as it is read: negative zero is zero; else none
 unfoldable pub valuesOf : List ℕ → List Rect

@@ -8,7 +8,8 @@ use text::write_refusal;
 ghost use mathlib.Core.Path.{_≡_};
 ghost use lib.ListN.{length};
 ghost use Rattle.text.specs.Answers.{wrote, left};
-ghost use Rattle.stream.specs.Answers.{Taken, regionText, answerText};
+ghost use Rattle.stream.specs.Answers.{regionText, answerText};
+ghost use Rattle.stream.specs.Inside.{Taken};
 
 // The text of the common region of a list that has no fault. The list has at most 512 rectangles, and
 // their common region no more pieces than that, so there is room for it.
@@ -24,6 +25,11 @@ fn listed(list: &[f64], out: &mut [u8]) -> Written
 }
 
 // The text that goes out for the stream s, to the start of `out`.
+// Laws: Every.every-answer, Every.one-answer; Settled.settled; Laws.common-answer, Laws.stream-of,
+// Laws.first-fault, Laws.one-too-many, Laws.no-record.
+// Ruled out: of no bytes: `pieces 0` (it is the full rectangle, once); of 513 whole records with
+// right marks: the text of the first 512; of 513 records of which the third has a NaN: `refused 5`
+// (the first fault decides: 1).
 pub fn common_text(s: &[u8], out: &mut [u8]) -> Written
     ensures { λ r. ⌜ r ≡ wrote (answerText (now (s .entry))) (length (now (out .entry))) ⌝ }
     ensures { λ _. ⌜ now (out .exit) ≡ left (answerText (now (s .entry))) (now (out .entry)) ⌝ }

@@ -7,11 +7,12 @@ use crate::record::read_record;
 use consts::ACCEPTED;
 use consts::BAD_LIST;
 use consts::BAD_RECORD;
-use s2::rect::Rect;
+use lists::put_rect;
 ghost use mathlib.Core.Path.{_≡_};
-ghost use Prim.Native.Nat.{_+_, _≤_};
+ghost use Prim.Native.Nat.{_≤_};
 ghost use lib.ListN.{length};
-ghost use Rattle.stream.specs.Stream.{placed, overNumber, endedWith, IsGathered};
+ghost use Rattle.stream.specs.Stream.{overNumber};
+ghost use Rattle.stream.specs.Inside.{endedWith, IsGathered};
 
 // What was gathered: how many rectangles; none under a refusal.
 pub(crate) struct Gathered {
@@ -19,25 +20,11 @@ pub(crate) struct Gathered {
     pub(crate) count: usize,
 }
 
-// Puts a rectangle's numbers at a place of the list.
-fn place(list: &mut [f64], at: usize, r: Rect)
-    requires { ⌜ at + 4 ≤ length (now list) ⌝ }
-    ensures { λ _. ⌜ now (list .exit) ≡ placed at r (now (list .entry)) ⌝ }
-{
-    list[at] = r.lat.lo;
-    list[at + 1] = r.lat.hi;
-    list[at + 2] = r.lng.lo;
-    list[at + 3] = r.lng.hi;
-}
-
-// The refusal that stands after 512 records: the 513th is one too many where it is whole and has a right
-// mark, whatever its numbers.
+// The refusal of what goes on after 512 records: the 513th is one too many where it is whole and has a
+// right mark, whatever its numbers.
 fn over(s: &[u8]) -> u8
     ensures { λ n. ⌜ n ≡ overNumber (now (s .entry)) ⌝ }
 {
-    if s.len() == 0 {
-        return ACCEPTED;
-    }
     if is_record(s) {
         return BAD_LIST;
     }
@@ -65,7 +52,7 @@ pub(crate) fn gather(s: &[u8], list: &mut [f64]) -> Gathered
                 count: 0,
             };
         };
-        place(list, 4 * k, r);
+        put_rect(list, 4 * k, r);
         k += 1;
     }
     ended(s, k)

@@ -11,7 +11,8 @@ ghost use Prim.Native.Nat.{_+_, _≤_};
 ghost use lib.ListN.{length};
 ghost use Rattle.consts.specs.Refusal.{given};
 ghost use Rattle.s2.specs.Reading.{asRead, readOne};
-ghost use Rattle.stream.specs.Records.{isMark, isSecond, joined, doubleAt, rectOf, whole, recordNumber, recordValues, IsRecord};
+ghost use Rattle.stream.specs.Records.{isMark, joined, doubleAt, rectOf, wholeRecord, recordNumber, recordValues, IsRecord};
+ghost use Rattle.stream.specs.Inside.{isSecond};
 
 // How many bytes a record has.
 const SIZE: usize = 34;
@@ -23,6 +24,8 @@ pub enum Record {
 }
 
 // Document 01's number for a record.
+// Laws: Records.whole-number, Records.short-refused, Records.mark-refused.
+// Ruled out: of a rectangle: 7; of a refusal by 2: 0.
 pub fn number_of(x: Record) -> u8
     ensures { λ n. ⌜ n ≡ recordNumber x ⌝ }
 {
@@ -115,7 +118,7 @@ fn judge(r: Rect) -> Record
 
 // Whether a whole record with a right mark stands at the start of s.
 pub(crate) fn is_record(s: &[u8]) -> bool
-    ensures { λ b. ⌜ b ≡ whole (now (s .entry)) ⌝ }
+    ensures { λ b. ⌜ b ≡ wholeRecord (now (s .entry)) ⌝ }
 {
     if s.len() < SIZE {
         return false;
@@ -125,6 +128,11 @@ pub(crate) fn is_record(s: &[u8]) -> bool
 
 // The record that stands at the start of s: document 01's number and values for these bytes, which no other
 // record has (one-record).
+// Laws: Records.short-refused, Records.mark-refused, Records.whole-number, Records.taken-values,
+// Records.no-values, Records.record-plain, Records.one-record.
+// Ruled out: of 33 bytes that begin with the mark: a rectangle; of a record whose mark is 31 52: a
+// rectangle (both are refused with 7); of a record of [0, 1] by [-0, 1]: [0, 1] by [-0, 1] (its
+// west is 0).
 pub fn read_record(s: &[u8]) -> Record
     ensures { λ r. ⌜ IsRecord (now (s .entry)) r ⌝ }
 {

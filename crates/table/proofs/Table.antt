@@ -4,22 +4,27 @@ use mathlib.Core.Path.{_≡_, refl}
 use mathlib.Core.List.{[], _∷_}
 use lib.Ieee as Ieee
 use lib.Ieee.{Float, binary64, ofBits, lt, le, eq}
-use Rattle.order.specs.Choice.{smaller, larger}
+use Rattle.order.specs.Choice.{min, max}
 use Rattle.consts.specs.Constants.{PI, NEG-PI, TWO}
 use Rattle.consts.specs.Answer.{ZERO}
 use Rattle.consts.specs.Reading.{inReach, plain, readNumber}
 use Rattle.consts.specs.Refusal.{firstRefusal}
 use Rattle.r1.specs.Line as line
 use Rattle.s1.specs.declared.interval.Interval.{Interval}
-use Rattle.s1.specs.Circle.{ends, FULL, EMPTY, distance, seam, valid, full, empty, length, fast, covers, hull, overlap, widened, grown}
+use Rattle.s1.specs.Circle as circle
+use Rattle.s1.specs.Circle.{ends, FULL, EMPTY, positiveDistance, seam, isValid, isFull, isEmpty, len, fastContains, containsInterval}
 use Rattle.s1.specs.Reading.{readOne, readTwo, onCircle, readPoint}
 use Rattle.s1.specs.Answers.{circleAnswer, union, intersection, add}
 use Rattle.s2.specs.declared.rect.Rect.{Rect}
-use Rattle.s2.specs.Rect as rect
-use Rattle.s2.specs.Rect.{at, box}
+use Rattle.s2.specs.Zone as rect
+use Rattle.s2.specs.Zone.{at, box}
 use Rattle.s2.specs.Reading as rects
 use Rattle.s2.specs.Answers.{rectAnswer, vertex, expanded}
-use Rattle.region.specs.Clipping as pieces
+use Rattle.lists.specs.Lists.{wholeLength}
+use Rattle.lists.specs.Rects.{rectsOf, numbersOf, asReadAll}
+use Rattle.lists.specs.Refused.{firstNumber}
+use Rattle.arcs.specs.CommonArcs as places
+use Rattle.arcs.specs.Clipping as pieces
 use Rattle.region.specs.Region as region
 use Rattle.region.specs.Answers as answers
 use Rattle.region.proofs.Examples.{zone, NINE, four-nines, Gives}
@@ -52,7 +57,7 @@ OriginExpanded = expanded origin (at TWO FOUR) ≡ rectAnswer rect.FULL
 
 origin-expanded : OriginExpanded
 unfolding
-    expanded rects.readWithMargins rects.readOne rects.readMargins rects.asRead rects.rectInReach readNumber firstRefusal inReach plain rect.valid rect.latitude rect.widened line.widened line.empty line.overlap widened valid empty full length smaller larger ofBits lt le eq Ieee.add Ieee.sub Ieee.mul
+    expanded rects.readWithMargins rects.readOne rects.readMargins rects.asRead rects.rectInReach readNumber firstRefusal inReach plain rect.isValid rect.latitude rect.expanded line.expanded line.isEmpty line.intersection circle.expanded isValid isEmpty isFull len min max ofBits lt le eq Ieee.add Ieee.sub Ieee.mul
 origin-expanded = refl
 
 -- common of [-1, 1] and [1, -1]: [-1, -1], [1, 1]
@@ -75,7 +80,7 @@ NearlyFull =
 
 common-regions : BothEnds × OverTheSeam × NearlyFull
 unfolding
-    answers.answer answers.left answers.refusalOf answers.wholeList answers.firstRefused answers.piecesOf answers.rectsOf answers.numbers answers.asReadAll region.region region.bandFrom region.lngs region.across pieces.common pieces.steps pieces.step pieces.whole pieces.clip pieces.endAt pieces.cut pieces.insert pieces.sooner pieces.before pieces.someHolds rects.readOne rects.rectInReach rects.asRead rect.valid rect.latitude firstRefusal inReach plain line.empty line.overlap valid empty full smaller larger ofBits lt le eq
+    answers.answer answers.left answers.refusalOf wholeLength firstNumber answers.piecesOf rectsOf numbersOf asReadAll region.region region.bandFrom region.lngs region.across pieces.common pieces.steps pieces.step pieces.whole pieces.clip pieces.endAt pieces.cut pieces.insert pieces.sooner pieces.before places.someHolds rects.readOne rects.rectInReach rects.asRead rect.isValid rect.latitude firstRefusal inReach plain line.isEmpty line.intersection isValid isEmpty isFull min max ofBits lt le eq
 common-regions = (record { answers = refl; leaves = refl }, record { answers = refl; leaves = refl }, record { answers = refl; leaves = refl })
 
 -- ---- the table
@@ -89,9 +94,9 @@ pub record Table : Type 0 where
   pub zero-seam : union (point ZERO) (point PI) ≡ circleAnswer (ends ZERO PI)
   pub seam-zero : union (point PI) (point ZERO) ≡ circleAnswer (ends PI ZERO)
   -- -PI is the place PI
-  pub grown-seam : add EMPTY NEG-PI ≡ circleAnswer (point PI)
+  pub add-seam : add EMPTY NEG-PI ≡ circleAnswer (point PI)
   -- no point of the circle
-  pub grown-refused : add (ends ZERO ONE) FOUR ≡ record { refusal = 3; value = ends ZERO ONE }
+  pub read-add-refused : add (ends ZERO ONE) FOUR ≡ record { refusal = 3; value = ends ZERO ONE }
   pub origin-full : OriginExpanded
   pub common-both-ends : BothEnds
   pub common-over-the-seam : OverTheSeam
@@ -101,7 +106,7 @@ pub record Table : Type 0 where
 
 pub table : Table
 unfolding
-    intersection union add readOne readTwo readPoint onCircle firstRefusal inReach plain valid full empty fast covers hull overlap length distance seam grown vertex rect.corner le lt eq Ieee.add Ieee.sub ofBits
+    intersection union add readOne readTwo readPoint onCircle firstRefusal inReach plain isValid isFull isEmpty fastContains containsInterval circle.union circle.intersection len positiveDistance seam circle.add vertex rect.vertex le lt eq Ieee.add Ieee.sub ofBits
 table =
     record {
       two-wide = refl;
@@ -109,8 +114,8 @@ table =
       nearly-full = refl;
       zero-seam = refl;
       seam-zero = refl;
-      grown-seam = refl;
-      grown-refused = refl;
+      add-seam = refl;
+      read-add-refused = refl;
       origin-full = origin-expanded;
       common-both-ends = common-regions .0;
       common-over-the-seam = common-regions .1;

@@ -9,7 +9,7 @@ use lib.ListN.{length, take, drop, getD, length-drop, drop-of-length-le}
 use lib.Seq.{take-at, drop-at, getD-drop}
 use lib.Ieee.{Float, nan, binary64, fits}
 use Rattle.text.specs.Text.{numberText, wordText, lineText, linesText, headText, PIECES, piecesText}
-use Rattle.text.specs.Answers.{wholeList}
+use Rattle.lists.specs.Lists.{whole}
 use Rattle.text.proofs.Lengths.{length-number, length-word, length-line, few-digits, length-pieces}
 use Rattle.text.proofs.Lines.{four-at}
 use Rattle.text.proofs.Digits.{same-number}
@@ -68,7 +68,7 @@ same-lines (suc k) l m p q f g e =
     ∙ ap (λ (v : List Float). y 0 ∷ (y 1 ∷ (y 2 ∷ (y 3 ∷ v)))) r ∙ sym (four-at m 0 j)
 
 -- the counts of pieces are equal, since a line is longer than a count; then the first lines are, and the lines
-pub same-pieces : (l m : List Float) → wholeList l ≡ true → wholeList m ≡ true → Doubles l → Doubles m → piecesText l ≡ piecesText m → l ≡ m
+pub same-pieces : (l m : List Float) → whole 4 512 l ≡ true → whole 4 512 m ≡ true → Doubles l → Doubles m → piecesText l ≡ piecesText m → l ≡ m
 unfolding piecesText
 same-pieces l m w z f g e =
     let s : (length l % 4 ≡ 0) × (length l ≤ 2048) = whole-is l w in

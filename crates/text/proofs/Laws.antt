@@ -10,8 +10,9 @@ use lib.ListN.{length, drop}
 use lib.Seq.{take-append-seam, drop-append-seam}
 use lib.Ieee.{Float}
 use Rattle.consts.specs.Refusal.{number, accepted}
+use Rattle.lists.specs.Lists.{whole}
 use Rattle.text.specs.Text.{piecesText, refusedText, refusedAtText}
-use Rattle.text.specs.Answers.{wrote, left, wholeList, wrotePieces, leftPieces, wroteRefusal, leftRefusal, wroteRefusalAt, leftRefusalAt, Stands}
+use Rattle.text.specs.Answers.{wrote, left, wrotePieces, leftPieces, wroteRefusal, leftRefusal, wroteRefusalAt, leftRefusalAt, Stands}
 use Rattle.text.proofs.Lengths.{few-digits, length-pieces, length-refused}
 use Rattle.text.proofs.Answered.{wrote-fits, whole-is}
 
@@ -37,17 +38,17 @@ text-stands t out = by-test (leb (length t) (length out)) refl
 -- ---- pieces
 pub unaltered : (l : List Float) (out : List ℕ) → (wrotePieces l (length out) .refusal ≡ 0 → ⊥) → leftPieces l out ≡ out
 unfolding wrotePieces leftPieces
-unaltered l out = by-test (wholeList l) refl
+unaltered l out = by-test (whole 4 512 l) refl
   where
-    by-test : (b : Bool) → wholeList l ≡ b → (wrotePieces l (length out) .refusal ≡ 0 → ⊥) → leftPieces l out ≡ out
+    by-test : (b : Bool) → whole 4 512 l ≡ b → (wrotePieces l (length out) .refusal ≡ 0 → ⊥) → leftPieces l out ≡ out
     by-test true e h = simp e (text-unaltered (piecesText l) out (simp e at h))
     by-test false e h = simp e
 
 pub stands : (l : List Float) (out : List ℕ) → wrotePieces l (length out) .refusal ≡ 0 → Stands (piecesText l) (wrotePieces l (length out)) out (leftPieces l out)
 unfolding wrotePieces leftPieces
-stands l out = by-test (wholeList l) refl
+stands l out = by-test (whole 4 512 l) refl
   where
-    by-test : (b : Bool) → wholeList l ≡ b → wrotePieces l (length out) .refusal ≡ 0 → Stands (piecesText l) (wrotePieces l (length out)) out (leftPieces l out)
+    by-test : (b : Bool) → whole 4 512 l ≡ b → wrotePieces l (length out) .refusal ≡ 0 → Stands (piecesText l) (wrotePieces l (length out)) out (leftPieces l out)
     by-test true e h = simp e (text-stands (piecesText l) out (simp e at h))
     by-test false e h =
         let k : _≡_ {A = ℕ} 5 0 = simp e at h in
@@ -85,7 +86,7 @@ refusal-at-stands n line out = by-test (ltb line 1000) refl
 
 -- ---- room
 -- no list that is taken needs more than 8 + 3 + 68 * 512 bytes
-pub enough : (l : List Float) (room : ℕ) → wholeList l ≡ true → 34827 ≤ room → wrotePieces l room ≡ record { refusal = number accepted; count = length (piecesText l) }
+pub enough : (l : List Float) (room : ℕ) → whole 4 512 l ≡ true → 34827 ≤ room → wrotePieces l room ≡ record { refusal = number accepted; count = length (piecesText l) }
 unfolding wrotePieces
 enough l room w h =
     let s : (length l % 4 ≡ 0) × (length l ≤ 2048) = whole-is l w in

@@ -6,3 +6,4 @@ pub mod Digits
 pub mod Determined
 pub mod Laws
 pub mod Examples
+pub mod Promises

@@ -8,7 +8,7 @@ use lib.ListN.{length, drop, getD, set, drop-of-length-le}
 use lib.Seq.{drop-cons}
 use lib.Ieee.{Float, nan}
 use Rattle.text.specs.Text.{numberText, wordText, lineText, linesText, decimalText, headText, PIECES, piecesText, AT, REFUSED, refusedAtText}
-use Rattle.text.specs.Put.{put}
+use Rattle.text.specs.Inside.{put}
 use Rattle.text.proofs.Puts.{put-append, put-then}
 use Rattle.text.proofs.Lengths.{length-number, length-word, length-line, length-head}
 

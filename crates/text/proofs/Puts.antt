@@ -9,7 +9,7 @@ use native.Mathlib.Omega.{arith}
 use lib.ListN.{length, drop, getD, set, drop-of-length-le}
 use lib.Seq.{sets, length-sets, sets-eq, drop-cons}
 use Rattle.text.specs.Text.{hexDigit, hex}
-use Rattle.text.specs.Put.{put}
+use Rattle.text.specs.Inside.{put}
 
 -- the library's run of stores
 put-is : (at : ℕ) (t o : List ℕ) → put at t o ≡ sets o at t

@@ -1,13 +1,14 @@
 -- What the writers of a text, of pieces and of a refusal answer, and every byte that they leave in the output: a text that fits stands at its start, and
 -- the bytes after it stay; a refusal leaves all as it was. Definitions only.
 use mathlib.Core.Path.{_≡_}
-use mathlib.Core.Bool.{Bool, _&&_, cond}
+use mathlib.Core.Bool.{cond}
 use mathlib.Core.List.{List, _++_}
-use Prim.Native.Nat.{ℕ, _%_}
-use lib.Dec.{leb, ltb, eqb}
+use Prim.Native.Nat.{ℕ}
+use lib.Dec.{leb, ltb}
 use lib.ListN.{length, take, drop}
 use lib.Ieee.{Float}
 use Rattle.consts.specs.Refusal.{number, accepted, badList, noRoom}
+use Rattle.lists.specs.Lists.{whole}
 use Rattle.text.specs.declared.text.Written.{Written}
 use Rattle.text.specs.Text.{piecesText, refusedText, refusedAtText}
 
@@ -22,14 +23,11 @@ unfoldable pub left : List ℕ → List ℕ → List ℕ
 left t out = cond (leb (length t) (length out)) (t ++ drop (length t) out) out
 
 -- ---- pieces: four numbers each, at most 512 of them
-unfoldable pub wholeList : List Float → Bool
-wholeList l = eqb (length l % 4) 0 && leb (length l) 2048
-
 unfoldable pub wrotePieces : List Float → ℕ → Written
-wrotePieces l room = cond (wholeList l) (wrote (piecesText l) room) (refusedWith (number badList))
+wrotePieces l room = cond (whole 4 512 l) (wrote (piecesText l) room) (refusedWith (number badList))
 
 unfoldable pub leftPieces : List Float → List ℕ → List ℕ
-leftPieces l out = cond (wholeList l) (left (piecesText l) out) out
+leftPieces l out = cond (whole 4 512 l) (left (piecesText l) out) out
 
 -- ---- a refusal
 unfoldable pub wroteRefusal : ℕ → ℕ → Written

@@ -1,3 +1,3 @@
 pub mod Text
-pub mod Put
 pub mod Answers
+pub mod Inside

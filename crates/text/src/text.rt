@@ -11,7 +11,7 @@ ghost use Prim.Native.Nat.{_+_, _*_, _<_, _≤_, _/_, _%_, _^_};
 ghost use lib.ListN.{length, getD};
 ghost use lib.Ieee.{nan};
 ghost use Rattle.text.specs.Text.{hexDigit, numberText, wordText, lineText, linesText, decimalText, headText, piecesText, refusedAtText};
-ghost use Rattle.text.specs.Put.{put};
+ghost use Rattle.text.specs.Inside.{put};
 ghost use Rattle.text.specs.Answers.{wrote, left, wrotePieces, leftPieces, wroteRefusal, leftRefusal, wroteRefusalAt, leftRefusalAt};
 
 // What was written: how many bytes stand at the start of the output; none under a refusal.
@@ -162,13 +162,15 @@ fn write_whole(list: &[f64], out: &mut [u8]) -> Written
 }
 
 // The pieces in `list`, four numbers each, to the start of `out`. A refusal writes nothing.
+// Laws: Laws.stands, Laws.unaltered, Laws.enough; Digits.number-reads, Digits.same-number,
+// Digits.decimal-reads; Examples.two-pieces.
+// Ruled out: of two pieces: `pieces 1` and their lines; of two pieces: digits in lower case; of
+// five numbers: one line, under 0.
 pub fn write_pieces(list: &[f64], out: &mut [u8]) -> Written
     ensures { λ r. ⌜ r ≡ wrotePieces (now (list .entry)) (length (now (out .entry))) ⌝ }
     ensures { λ _. ⌜ now (out .exit) ≡ leftPieces (now (list .entry)) (now (out .entry)) ⌝ }
 {
-    let n = list.len();
-    let whole = (n % 4 == 0) & (n <= 2048);
-    if whole {
+    if lists::whole(list.len(), 4, 512) {
         return write_whole(list, out);
     }
     Written {
@@ -178,6 +180,9 @@ pub fn write_pieces(list: &[f64], out: &mut [u8]) -> Written
 }
 
 // The refusal number n to the start of `out`. Where there is no room, nothing is written.
+// Laws: Laws.refusal-stands, Laws.refusal-unaltered, Laws.refusal-enough; Examples.refused-seven.
+// Ruled out: of 7: `refused 7` without its newline; of 7, with room for nine bytes: those nine
+// bytes changed.
 pub fn write_refusal(n: u8, out: &mut [u8]) -> Written
     ensures { λ r. ⌜ r ≡ wroteRefusal n (length (now (out .entry))) ⌝ }
     ensures { λ _. ⌜ now (out .exit) ≡ leftRefusal n (now (out .entry)) ⌝ }
@@ -197,6 +202,9 @@ pub fn write_refusal(n: u8, out: &mut [u8]) -> Written
 }
 
 // Any text to the start of `out`. Where there is no room, nothing is written.
+// Laws: Laws.text-stands, Laws.text-unaltered.
+// Ruled out: of `ab`, with room for one byte: 1 byte, and that byte `a`; of `ab`, with room for
+// three: the third byte changed.
 pub fn write_text(s: &[u8], out: &mut [u8]) -> Written
     ensures { λ r. ⌜ r ≡ wrote (now (s .entry)) (length (now (out .entry))) ⌝ }
     ensures { λ _. ⌜ now (out .exit) ≡ left (now (s .entry)) (now (out .entry)) ⌝ }
@@ -240,6 +248,9 @@ fn write_at(n: u8, line: u64, out: &mut [u8]) -> Written
 
 // The refusal number n and the line that it stands on, to the start of `out`: a line number of more than
 // three digits is refused. Where there is no room, nothing is written.
+// Laws: Laws.refusal-at-stands, Laws.refusal-at-unaltered; Examples.refused-at-twelve.
+// Ruled out: of 8 and 12: `refused 8 at 21`; of 8 and 1,000: `refused 8 at 000` (it is refused with
+// 5).
 pub fn write_refusal_at(n: u8, line: u64, out: &mut [u8]) -> Written
     ensures { λ r. ⌜ r ≡ wroteRefusalAt n line (length (now (out .entry))) ⌝ }
     ensures { λ _. ⌜ now (out .exit) ≡ leftRefusalAt n line (now (out .entry)) ⌝ }

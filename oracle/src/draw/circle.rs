@@ -3,11 +3,9 @@
 
 use std::f64::consts::PI;
 
-use super::{edge, fresh, near, neighbour, signed};
-use crate::layers::consts::TWO_PI;
-use crate::ops::Role;
-use crate::refusals::{circle_is_valid, in_reach};
-use crate::rng::Rng;
+use super::number::{edge, eighths, fresh, near, neighbour, up_to};
+use crate::base::rng::Rng;
+use crate::base::roles::{circle_is_valid, in_reach, seam_as_pi, Role, TWO_PI};
 
 const EMPTY: [f64; 2] = [PI, -PI];
 const FULL: [f64; 2] = [-PI, PI];
@@ -51,19 +49,18 @@ pub fn interval(rng: &mut Rng, earlier: &[f64]) -> [f64; 2] {
             [lo, hi, ..] if rng.percent(65) => related_interval(rng, [*lo, *hi]),
             _ => fresh_interval(rng),
         };
-        let [lo, hi] = seam_as_pi(drawn);
-        if circle_is_valid(lo, hi) {
-            return [lo, hi];
+        let drawn = with_seam(drawn);
+        if circle_is_valid(drawn) {
+            return drawn;
         }
     }
 }
 
 /// The seam is written PI, but for FULL and EMPTY.
-fn seam_as_pi([lo, hi]: [f64; 2]) -> [f64; 2] {
-    let turned = |x: f64| if x == -PI { PI } else { x };
-    match [lo, hi] {
-        EMPTY | FULL => [lo, hi],
-        _ => [turned(lo), turned(hi)],
+fn with_seam(drawn: [f64; 2]) -> [f64; 2] {
+    match drawn {
+        EMPTY | FULL => drawn,
+        _ => drawn.map(seam_as_pi),
     }
 }
 
@@ -171,15 +168,9 @@ fn number(rng: &mut Rng) -> f64 {
     loop {
         let x = match rng.below(10) {
             0..=4 => edge(rng),
-            5 => {
-                let eighths = PI / 8.0 * rng.below(9) as f64;
-                signed(rng, eighths)
-            }
+            5 => eighths(rng, PI),
             6 => fresh(rng, Role::CirclePoint),
-            _ => {
-                let x = rng.unit() * PI;
-                signed(rng, x)
-            }
+            _ => up_to(rng, PI),
         };
         if x.abs() <= PI {
             return x;

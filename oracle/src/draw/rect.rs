@@ -3,10 +3,10 @@
 
 use std::f64::consts::{FRAC_PI_2, PI};
 
-use super::{circle, edge, fresh, near, neighbour, out_of_reach, signed};
-use crate::ops::Role;
-use crate::refusals::{in_reach, rect_is_valid, REACH};
-use crate::rng::Rng;
+use super::circle;
+use super::number::{edge, eighths, fresh, near, neighbour, out_of_reach, signed, up_to};
+use crate::base::rng::Rng;
+use crate::base::roles::{in_reach, rect_is_valid, Role, REACH};
 
 const EMPTY_LNG: [f64; 2] = [PI, -PI];
 const FULL_LNG: [f64; 2] = [-PI, PI];
@@ -41,8 +41,9 @@ pub fn rect(rng: &mut Rng, earlier: &[f64]) -> [f64; 4] {
         };
         let empty = lng == EMPTY_LNG || (!earlier.is_empty() && rng.percent(8));
         let (lat, lng) = if empty { (empty_lat(rng, earlier), EMPTY_LNG) } else { (lat, lng) };
-        if in_reach(lat[1]) && rect_is_valid(lat[0], lat[1], lng[0], lng[1]) {
-            return [lat[0], lat[1], lng[0], lng[1]];
+        let drawn = [lat[0], lat[1], lng[0], lng[1]];
+        if in_reach(lat[1]) && rect_is_valid(drawn) {
+            return drawn;
         }
     }
 }
@@ -174,14 +175,8 @@ fn lat_number(rng: &mut Rng) -> f64 {
                 let pole = signed(rng, FRAC_PI_2);
                 near(rng, pole)
             }
-            4 => {
-                let eighths = FRAC_PI_2 / 8.0 * rng.below(9) as f64;
-                signed(rng, eighths)
-            }
-            _ => {
-                let x = rng.unit() * FRAC_PI_2;
-                signed(rng, x)
-            }
+            4 => eighths(rng, FRAC_PI_2),
+            _ => up_to(rng, FRAC_PI_2),
         };
         if x.abs() <= FRAC_PI_2 {
             return x;

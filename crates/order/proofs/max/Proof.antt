@@ -1,14 +1,14 @@
 -- `order::max`: at each return the answer is the definition's, under the tests that led there. Assumes nothing.
-use Rattle.order.specs.Choice.{larger}
+use Rattle.order.specs.Choice.{max}
 use Rattle.order.proofs.max.Statement.{statement}
 use Rattle.order.proofs.max.Tie as tie
 
 returns : tie.Need-returns
-unfolding larger
+unfolding max
 returns c = simp (c .if1 .taken)
 
 returns-2 : tie.Need-returns-2
-unfolding larger
+unfolding max
 returns-2 c = simp (c .if1 .left)
 
 pub max-spec : {M : Type 1} → statement M

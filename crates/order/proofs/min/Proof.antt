@@ -1,14 +1,14 @@
 -- `order::min`: at each return the answer is the definition's, under the tests that led there. Assumes nothing.
-use Rattle.order.specs.Choice.{smaller}
+use Rattle.order.specs.Choice.{min}
 use Rattle.order.proofs.min.Statement.{statement}
 use Rattle.order.proofs.min.Tie as tie
 
 returns : tie.Need-returns
-unfolding smaller
+unfolding min
 returns c = simp (c .if1 .taken)
 
 returns-2 : tie.Need-returns-2
-unfolding smaller
+unfolding min
 returns-2 c = simp (c .if1 .left)
 
 pub min-spec : {M : Type 1} → statement M

@@ -1,5 +1,4 @@
 -- `consts::consts::reduced`: at each return the comparisons that led there say how many turns are to be taken off (proofs/Turns.antt). Assumes nothing.
-use borrow.Author.Needs.{needs}
 use mathlib.Core.Path.{_∙_}
 use Rattle.consts.proofs.Turns.{Bounded, is-bounded, east-one, east-two, west-one, west-two, stays}
 use Rattle.consts.proofs.consts.reduced.Statement.{statement}
@@ -20,11 +19,8 @@ returns-3 c = west-one (known (c .before .before .before)) (c .before .if3 .take
 returns-4 : tie.Need-returns-4
 returns-4 c = west-two (known (c .before .before .before)) (c .before .if3 .taken) (c .if4 .left)
 
-zero-read-requires : tie.Need-zero-read-requires
-zero-read-requires c κs = search needs
-
 returns-5 : tie.Need-returns-5
 returns-5 c = c .zero-read .ensures ∙ stays (known (c .before .before .before)) (c .before .before .if1 .left) (c .before .if3 .left)
 
 pub reduced-spec : {M : Type 1} → statement M
-reduced-spec = tie.close (tie.spec returns returns-2 returns-3 returns-4 zero-read-requires returns-5)
+reduced-spec = tie.close (tie.spec returns returns-2 returns-3 returns-4 (λ c κs. tt) returns-5)

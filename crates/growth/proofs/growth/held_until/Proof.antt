@@ -6,9 +6,9 @@ use native.Mathlib.Omega.{arith}
 use borrow.Author.Needs.{needs}
 use denote.Floats.{is-true}
 use lib.ListN.{length}
-use Rattle.growth.specs.Growth.{pointAt}
-use Rattle.growth.specs.Points.{DoublePoint}
-use Rattle.growth.specs.Held.{HeldUntil}
+use Rattle.lists.specs.Points.{pointAt}
+use Rattle.lists.proofs.Doubles.{DoublePoint}
+use Rattle.growth.specs.Devices.{HeldUntil}
 use Rattle.growth.proofs.Turns.{passed}
 use Rattle.growth.proofs.Held.{held-turn}
 use Rattle.growth.proofs.growth.held_until.Statement.{statement}
@@ -61,7 +61,7 @@ loop-again c =
     let held = sym (c .before .is-held .ensures) ∙ passed (c .if1 .left) in
     let was = at .loop .inv .0 in (
       record {
-        is = λ r. held-turn r (start .args .q) l i (omega arith) (start .pre .3) d held ∙ was .is r;
+        is = λ r. held-turn r (start .args .q) l i (omega arith) (start .pre .valid) d held ∙ was .is r;
         from = omega arith;
         up-to = omega arith;
         whole = omega arith;

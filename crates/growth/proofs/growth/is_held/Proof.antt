@@ -1,6 +1,6 @@
 -- `growth::growth::is_held`: the tests are those of `isHeld`, in its order. Assumes nothing.
 use borrow.Author.Needs.{needs}
-use Rattle.growth.specs.Held.{isHeld}
+use Rattle.growth.specs.Devices.{isHeld}
 use Rattle.growth.proofs.growth.is_held.Statement.{statement}
 use Rattle.growth.proofs.growth.is_held.Tie as tie
 

@@ -1,5 +1,5 @@
 -- `growth::growth::is_on`: each branch is a case of `isOn`. Assumes nothing.
-use Rattle.growth.specs.Held.{isOn}
+use Rattle.growth.specs.Devices.{isOn}
 use Rattle.growth.proofs.growth.is_on.Statement.{statement}
 use Rattle.growth.proofs.growth.is_on.Tie as tie
 

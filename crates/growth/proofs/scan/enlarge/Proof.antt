@@ -44,13 +44,13 @@ use denote.Triple.Walked.{says, Stays, stay-ref, stay-none, walkOf, AllGo, goes-
 use denote.Exit.{yes}
 use Rattle.s2.specs.declared.rect.Rect.{Rect}
 use Rattle.s2.specs.declared.rect.Answer.{Answer}
-use Rattle.s2.specs.Rect.{at as point}
+use Rattle.s2.specs.Zone.{at as point}
 use Rattle.s2.specs.Answers.{add}
 use Rattle.s2.proofs.rect.Rect as T
 use Rattle.s2.proofs.rect.Rect.Laws as T′
 use Rattle.s2.proofs.rect.Answer as G
 use Rattle.s2.proofs.rect.Answer.Laws as G′
-use Rattle.growth.specs.Scan.{kept, enlarged}
+use Rattle.growth.specs.Scan.{kept, enlarge}
 use Rattle.growth.proofs.Boxes.{mach, answer-mach, number-fits, box-is, stored, left}
 use Rattle.growth.proofs.scan.grow_point as grow
 use Rattle.growth.proofs.scan.grow_point.Symbol as grow-def
@@ -73,8 +73,8 @@ abbrev Grow : {M : Type 1} (𝓤 : URA M) (H : Heap 𝓤) (A : Atoms 𝓤) (mem 
 Grow 𝓤 H A mem run = tripleOf 𝓤 H A grow.signature (grow.spec 𝓤 H A mem run)
 
 -- what the contract says of the number and of the box w that is left, by what growth answered
-says-so : (h : Rect) (n m : Float) (r : Answer) (w : Rect) → r ≡ add h (point n m) → w ≡ kept h r → (r .refusal ≡ enlarged h (point n m) .refusal) × (w ≡ enlarged h (point n m) .value)
-unfolding enlarged
+says-so : (h : Rect) (n m : Float) (r : Answer) (w : Rect) → r ≡ add h (point n m) → w ≡ kept h r → (r .refusal ≡ enlarge h (point n m) .refusal) × (w ≡ enlarge h (point n m) .value)
+unfolding enlarge
 says-so h n m r w e k = (ap (λ (a : Answer). a .refusal) e, k ∙ ap (kept h) e)
 
 module _ {M : Type 1} (𝓤 : URA M) (H : Heap 𝓤) (A : Atoms 𝓤) (W : Given 𝓤 H A) (at-mem : Memory → SProp 𝓤) (run : Routine → Fun 𝓤) (κ : Lft) (q : Share) (b o : ℕ) (γ : GName) (h : Rect) (n m : Float) where

@@ -43,14 +43,14 @@ use denote.Triple.Clauses.{ensured, lasts}
 use denote.Triple.Table.{entered, cited}
 use denote.Triple.Walked.{says, Stays, stay-ref, stay-none-slice, walkOf, AllGo, goes-none-slice, goes-ref, Walks, ends-at, walked, walk-meets}
 use denote.Exit.{yes}
-use Rattle.growth.specs.Growth.{grownBy}
+use Rattle.growth.specs.Growth as growth
 use Rattle.s2.specs.declared.rect.Rect.{Rect}
 use Rattle.s2.specs.declared.rect.Answer.{Answer}
 use Rattle.s2.proofs.rect.Rect as T
 use Rattle.s2.proofs.rect.Rect.Laws as T′
 use Rattle.s2.proofs.rect.Answer as G
 use Rattle.s2.proofs.rect.Answer.Laws as G′
-use Rattle.growth.specs.Scan.{kept, enlargedAll}
+use Rattle.growth.specs.Scan.{kept, enlargeAll}
 use Rattle.growth.proofs.Boxes.{mach, answer-mach, number-fits, box-is, stored, left}
 use Rattle.growth.proofs.growth.grow as grow
 use Rattle.growth.proofs.growth.grow.Symbol as grow-def
@@ -73,8 +73,8 @@ abbrev Grow : {M : Type 1} (𝓤 : URA M) (H : Heap 𝓤) (A : Atoms 𝓤) (mem 
 Grow 𝓤 H A mem run = tripleOf 𝓤 H A grow.signature (grow.spec 𝓤 H A mem run)
 
 -- what the contract says of the number and of the box w that is left, by what growth answered
-says-so : (h : Rect) (l : List Float) (r : Answer) (w : Rect) → r ≡ grownBy h l → w ≡ kept h r → (r .refusal ≡ enlargedAll h l .refusal) × (w ≡ enlargedAll h l .value)
-unfolding enlargedAll
+says-so : (h : Rect) (l : List Float) (r : Answer) (w : Rect) → r ≡ growth.grow h l → w ≡ kept h r → (r .refusal ≡ enlargeAll h l .refusal) × (w ≡ enlargeAll h l .value)
+unfolding enlargeAll
 says-so h l r w e k = (ap (λ (a : Answer). a .refusal) e, k ∙ ap (kept h) e)
 
 module _ {M : Type 1} (𝓤 : URA M) (H : Heap 𝓤) (A : Atoms 𝓤) (W : Given 𝓤 H A) (at-mem : Memory → SProp 𝓤) (run : Routine → Fun 𝓤) (κ κ′ : Lft) (bounds : AllOutlive 2 (f.signature .outlives) (κ, (κ′, tt))) (q q′ : Share) (b o : ℕ) (γ : GName) (h : Rect) (s : RefT (List Float)) where
@@ -90,8 +90,8 @@ module _ {M : Type 1} (𝓤 : URA M) (H : Heap 𝓤) (A : Atoms 𝓤) (W : Given
   abbrev Own : Fml
   Own = ShrSlice (named 1) κ′ f64 .own s (w ∷ [])
 
-  said : (r : Answer) → ent 𝓤 (ensured 𝓤 H A grow.ended (grow.clauses 𝓤 H A at-mem run) (κ′, tt) (h, (s, tt)) tt r) (fact 𝓤 (r ≡ grownBy h (s .now)))
-  said r = exE 𝓤 _ (λ ws. snd∗ 𝓤 (sem 𝓤 H A (lasts grow.ended (κ′, tt) (h, (s, tt)) ws)) (fact 𝓤 (r ≡ grownBy h (s .now))))
+  said : (r : Answer) → ent 𝓤 (ensured 𝓤 H A grow.ended (grow.clauses 𝓤 H A at-mem run) (κ′, tt) (h, (s, tt)) tt r) (fact 𝓤 (r ≡ growth.grow h (s .now)))
+  said r = exE 𝓤 _ (λ ws. snd∗ 𝓤 (sem 𝓤 H A (lasts grow.ended (κ′, tt) (h, (s, tt)) ws)) (fact 𝓤 (r ≡ growth.grow h (s .now))))
 
   abbrev Post : Val → SProp 𝓤
   Post = walkOf 𝓤 H A f.ended stayed (f.clauses 𝓤 H A at-mem run) .post (((κ, (κ′, tt)), (q, (q′, tt)), bounds, x, at), tt)
@@ -105,7 +105,7 @@ module _ {M : Type 1} (𝓤 : URA M) (H : Heap 𝓤) (A : Atoms 𝓤) (W : Given
       nothing ! $ move ! (2 ∷ 0 ∷ []) $ join ! $ join ! $ frame ! $ done !
 
   -- the return, with the box left at d
-  exits : (r : Answer) (d : Rect) → r ≡ grownBy h (s .now) → d ≡ kept h r → r .refusal < 2 ^ 8
+  exits : (r : Answer) (d : Rect) → r ≡ growth.grow h (s .now) → d ≡ kept h r → r .refusal < 2 ^ 8
       → ent 𝓤 (⋆ 𝓤 H A (‵ (fobs γ (T.the-row .coded .code d)) ∷ ‵ (fbor κ (Body (mem T.the-row) b o γ)) ∷ ‵ (flft κ q) ∷ (‵ (flft κ′ q′) ⊛ ‵ ftrue) ∷ ‵ Own ∷ [])) (Post (vint w8 (r .refusal)))
   exits r d e k ok8 =
       qed W (‵ (fobs γ (T.the-row .coded .code d)) ∷ ‵ (fbor κ (Body (mem T.the-row) b o γ)) ∷ ‵ (flft κ q) ∷ (‵ (flft κ′ q′) ⊛ ‵ ftrue) ∷ ‵ Own ∷ []) ∵
@@ -135,7 +135,7 @@ module _ {M : Type 1} (𝓤 : URA M) (H : Heap 𝓤) (A : Atoms 𝓤) (W : Given
           ∷ ‵ (fat fullShare list-ty l₂ 0 w) ∷ ‵ (fdies list-ty l₂) ∷ ‵ (fat fullShare box-ty l₁ 0 (vptr b o)) ∷ ‵ (fdies box-ty l₁) ∷ ‵ (froom (tyInt w8) l₀ 0) ∷ ‵ (fdies (tyInt w8) l₀) ∷ Γ
 
       -- what follows the test: the number goes into the result, the borrow is closed at d, and the locals are freed
-      leaves : (z : Bool) (d : Rect) → r ≡ grownBy h (s .now) → d ≡ kept h r → Is G.the-row r (v ∷ []) → Is T.the-row d (mach d ∷ []) → Sq W (After z d) (runs C Λ E body.t-5 (atRet E Post))
+      leaves : (z : Bool) (d : Rect) → r ≡ growth.grow h (s .now) → d ≡ kept h r → Is G.the-row r (v ∷ []) → Is T.the-row d (mach d ∷ []) → Sq W (After z d) (runs C Λ E body.t-5 (atRet E Post))
       leaves z d e k is dis =
           assigns ! (of-opd ! (load ! (from ! (fld ! refl (stop !))) (look-in ! 14 (sub ! 0 refl (whole !))))) (from ! (stop !)) (init ! 20 refl (tt, record { fits = number-fits r v is })) $
           drop ! $ owned ! T.the-row (Is T.the-row) (LL.makes T.the-type T′.the-plain 𝓤 H A) d _ dis $
@@ -162,7 +162,7 @@ module _ {M : Type 1} (𝓤 : URA M) (H : Heap 𝓤) (A : Atoms 𝓤) (W : Given
         move ! (3 ∷ 0 ∷ []) $ use2 W (raw (Grow 𝓤 H A at-mem run .pre to-grow)) (goes-grow was) $
         calls-at ! fm (Grow 𝓤 H A at-mem run) known to-grow (and-then ! (load ! (from ! (stop !)) (look ! 11 refl)) (and-then ! (load ! (from ! (stop !)) (look ! 15 refl)) (no-more !))) (λ v.
         use1 W (later (some (λ (r : Answer). ((‵ (flft κ′ q′) ⊛ ‵ ftrue) ⊛ ‵ (G.the-row .own r (v ∷ []))) ⊛ raw (ensured 𝓤 H A grow.ended (grow.clauses 𝓤 H A at-mem run) (κ′, tt) (h, (s, tt)) tt r)))) (id⊢ 𝓤 _) $ await ! tt $ pick ! (λ r.
-        split ! $ move ! (1 ∷ []) $ use1 W (raw (fact 𝓤 (r ≡ grownBy h (s .now)))) (said r) $ heard ! (r ≡ grownBy h (s .now)) (λ e. split ! $ move ! (1 ∷ []) $
+        split ! $ move ! (1 ∷ []) $ use1 W (raw (fact 𝓤 (r ≡ growth.grow h (s .now)))) (said r) $ heard ! (r ≡ growth.grow h (s .now)) (λ e. split ! $ move ! (1 ∷ []) $
         peeks ! G.the-row (Is G.the-row) (shows 𝓤 H A G.the-row) r (v ∷ []) (λ is.
         -- [what r owns; the slice's token; what the slice owns; true; true; the struct's cell; what the old Rect owns; the open borrow; obs; auth; _4; …; _3; …]
         land ! (from ! (stop !)) (init ! 14 refl (LL.lawful G.the-type G′.the-laws 𝓤 H A W .typed r _ is .0)) $ rewrite ! 14 (λ (u : Val). ‵ (fat fullShare G′.mir l₃ 0 u)) (ap only (LL.tells G.the-type G′.the-laws r _ is)) refl $

@@ -1,45 +1,39 @@
 -- `growth::scan::scan`: each return is a case of `scanned`, which proofs/Turns.antt has by the test that led to it. Assumes nothing.
 use mathlib.Core.Path.{sym, _∙_}
 use borrow.Author.Needs.{needs}
-use Rattle.growth.proofs.Turns.{taken, passed, whole-even, scan-start-refused, scan-left, scan-written}
+use lib.ListN.{length}
+use Rattle.lists.proofs.Lengths.{whole-multiple}
+use Rattle.growth.proofs.Turns.{taken, passed, scan-start-refused, scan-left, scan-written}
 use Rattle.growth.proofs.Laws.{scan-list-bad}
 use Rattle.growth.proofs.scan.scan.Statement.{statement}
 use Rattle.growth.proofs.scan.scan.Tie as tie
 
-whole-points-requires : tie.Need-whole-points-requires
-whole-points-requires c κs = search needs
-
-answer-requires : tie.Need-answer-requires
-answer-requires c κs = search needs
+whole-requires : tie.Need-whole-requires
+whole-requires c κs = search needs
 
 returns : tie.Need-returns
 returns c =
-    let at-list = c .before .before in
+    let at-list = c .before in
     let a = at-list .before .before .args in
-    let w = sym (at-list .whole-points .ensures) ∙ taken (c .before .if1 .taken) in
-    c .answer .ensures ∙ sym (scan-list-bad (a .start) (a .points .now) w)
+    sym (scan-list-bad (a .start) (a .points .now) (sym (at-list .whole .ensures) ∙ taken (c .if1 .taken)))
 
 read-one-requires : tie.Need-read-one-requires
 read-one-requires c κs = search needs
 
-answer-requires-2 : tie.Need-answer-requires-2
-answer-requires-2 c κs = search needs
-
 returns-2 : tie.Need-returns-2
 returns-2 c =
-    let at-start = c .before .before .before in
+    let at-start = c .before .before in
     let at-list = at-start .before .before in
     let a = at-list .before .before .args in
-    let w = sym (at-list .whole-points .ensures) ∙ passed (at-start .before .if1 .left) in
+    let w = sym (at-list .whole .ensures) ∙ passed (at-start .before .if1 .left) in
     let x = at-start .read-one in
-    c .answer2 .ensures ∙ sym (scan-start-refused (a .start) (a .points .now) w (x .result) (x .ensures) (c .before .if2 .taken))
+    sym (scan-start-refused (a .start) (a .points .now) w (x .result) (x .ensures) (c .if2 .taken))
 
 scan-points-requires : tie.Need-scan-points-requires
 scan-points-requires c κs =
     let at-start = c .before .before in
     let at-list = at-start .before .before in
-    let w = sym (at-list .whole-points .ensures) ∙ passed (at-start .before .if1 .left) in
-    whole-even (at-list .before .before .args .points .now) w
+    whole-multiple 2 4096 (length (at-list .before .before .args .points .now)) (sym (at-list .whole .ensures) ∙ passed (at-start .before .if1 .left))
 
 returns-3 : tie.Need-returns-3
 returns-3 c =
@@ -47,16 +41,13 @@ returns-3 c =
     let at-start = at-box .before .before .before in
     let at-list = at-start .before .before in
     let a = at-list .before .before .args in
-    let w = sym (at-list .whole-points .ensures) ∙ passed (at-start .before .if1 .left) in
+    let w = sym (at-list .whole .ensures) ∙ passed (at-start .before .if1 .left) in
     let x = at-start .read-one in
     let y = at-box .scan-points in
     sym (scan-left (a .start) (a .points .now) w (x .result) (x .ensures) (at-box .before .if2 .left) (y .result) (y .ensures) (c .if3 .taken))
 
 read-one-requires-2 : tie.Need-read-one-requires-2
 read-one-requires-2 c κs = search needs
-
-answer-requires-3 : tie.Need-answer-requires-3
-answer-requires-3 c κs = search needs
 
 returns-4 : tie.Need-returns-4
 returns-4 c =
@@ -65,25 +56,12 @@ returns-4 c =
     let at-start = at-box .before .before .before in
     let at-list = at-start .before .before in
     let a = at-list .before .before .args in
-    let w = sym (at-list .whole-points .ensures) ∙ passed (at-start .before .if1 .left) in
+    let w = sym (at-list .whole .ensures) ∙ passed (at-start .before .if1 .left) in
     let x = at-start .read-one in
     let y = at-box .scan-points in
     let z = at-end .read-one2 in
-    c .answer3 .ensures
-    ∙ sym (scan-written (a .start) (a .points .now) w (x .result) (x .ensures) (at-box .before .if2 .left) (y .result) (y .ensures) (at-end .before .if3 .left) (z .result) (z .ensures))
+    sym (scan-written (a .start) (a .points .now) w (x .result) (x .ensures) (at-box .before .if2 .left) (y .result) (y .ensures) (at-end .before .if3 .left) (z .result) (z .ensures))
 
 pub scan-spec : {M : Type 1} → statement M
 scan-spec =
-    tie.close
-    (tie.spec
-    whole-points-requires
-    answer-requires
-    returns
-    read-one-requires
-    answer-requires-2
-    returns-2
-    scan-points-requires
-    returns-3
-    read-one-requires-2
-    answer-requires-3
-    returns-4)
+    tie.close (tie.spec whole-requires returns read-one-requires returns-2 scan-points-requires returns-3 read-one-requires-2 returns-4)

@@ -43,13 +43,13 @@ use denote.Triple.Table.{entered, cited}
 use denote.Triple.Walked.{says, Stays, stay-none, walkOf, AllGo, goes-none, Walks, ends-at, walked, walk-meets}
 use denote.Exit.{yes}
 use Rattle.s2.specs.declared.rect.Rect.{Rect}
-use Rattle.s2.specs.Rect.{at as point}
+use Rattle.s2.specs.Zone.{at as point}
 use Rattle.s2.proofs.rect.Rect as T
 use Rattle.s2.proofs.rect.Rect.Laws as T′
 use Rattle.s2.proofs.rect.Answer as G
 use Rattle.s2.proofs.rect.Answer.Laws as G′
 use Rattle.growth.specs.Growth.{under}
-use Rattle.growth.specs.Scan.{enlarged}
+use Rattle.growth.specs.Scan as scan
 use Rattle.growth.proofs.Boxes.{mach, answer-mach, made}
 use Rattle.growth.proofs.scan.enlarge as enlarge
 use Rattle.growth.proofs.scan.enlarge.Symbol as enlarge-def
@@ -96,7 +96,7 @@ module _ {M : Type 1} (𝓤 : URA M) (H : Heap 𝓤) (A : Atoms 𝓤) (W : Given
 
   -- what `enlarge` says of its number r and of the box w that it leaves
   abbrev Said : ℕ → Rect → Type 0
-  Said r w = (r ≡ enlarged h (point n m) .refusal) × (w ≡ enlarged h (point n m) .value)
+  Said r w = (r ≡ scan.enlarge h (point n m) .refusal) × (w ≡ scan.enlarge h (point n m) .value)
 
   abbrev to-enlarge : ℕ → ℕ → GName → Enlarge 𝓤 H A at-mem run .Ghost
   to-enlarge l ν γ = (((ν ∷ [], tt), (fullShare, tt), tt, (box l γ, (n, (m, tt))), (vptr l 0 ∷ [], (vfloat binary64 n ∷ [], (vfloat binary64 m ∷ [], tt)))), tt)

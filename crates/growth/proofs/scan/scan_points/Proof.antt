@@ -5,8 +5,8 @@ use Prim.Native.Nat.{ℕ, _-_, _%_, _≤_}
 use native.Mathlib.Omega.{arith}
 use borrow.Author.Needs.{needs}
 use lib.ListN.{length, drop}
-use Rattle.growth.specs.Growth.{pointsOf}
-use Rattle.growth.specs.Scan.{scannedFrom}
+use Rattle.lists.specs.Points.{pointsOf}
+use Rattle.growth.specs.Scan.{enlarge, scannedFrom}
 use Rattle.growth.proofs.Turns.{scan-turn, scan-end}
 use Rattle.growth.proofs.scan.scan_points.Statement.{statement}
 use Rattle.growth.proofs.scan.scan_points.Tie as tie
@@ -21,20 +21,8 @@ abbrev μ-loop : tie.MeasureT-loop
 loop-holds : tie.Need-loop-holds Inv-loop μ-loop
 loop-holds c = (refl, omega arith, omega arith, refl, omega arith)
 
-mul-scan-point : tie.Need-mul-scan-point Inv-loop μ-loop
-mul-scan-point c = search needs
-
-shared-slice-read-scan-point : tie.Need-shared-slice-read-scan-point Inv-loop μ-loop
-shared-slice-read-scan-point c = search needs
-
-add-scan-point : tie.Need-add-scan-point Inv-loop μ-loop
-add-scan-point c = search needs
-
-mul-scan-point-2 : tie.Need-mul-scan-point-2 Inv-loop μ-loop
-mul-scan-point-2 c = search needs
-
-shared-slice-read-scan-point-2 : tie.Need-shared-slice-read-scan-point-2 Inv-loop μ-loop
-shared-slice-read-scan-point-2 c = search needs
+point-at-requires : tie.Need-point-at-requires Inv-loop μ-loop
+point-at-requires c κs = search needs
 
 scan-point-requires : tie.Need-scan-point-requires Inv-loop μ-loop
 scan-point-requires c κs = search needs
@@ -50,24 +38,21 @@ loop-less c = search needs
 
 loop-again : tie.Need-loop-again Inv-loop μ-loop
 loop-again c =
-    let at = c .before .before .before .before .before .before in
-    let a = at .before .before .args in
-    let v = at .loop in
+    let at-point = c .before .before .before in
+    let at-loop = at-point .before .before in
+    let a = at-loop .before .before .args in
+    let v = at-loop .loop in
     let x = c .before .before .scan-point in
     let y = c .before .first-refusal in
-    (v .inv .0 ∙ scan-turn (v .refusal) (v .b) (a .points .now) (v .i) (omega arith) (y .result) (x .result) (x .ensures) (y .ensures), omega arith, omega arith, refl, omega arith)
-
-answer-requires : tie.Need-answer-requires Inv-loop μ-loop
-answer-requires c κs = search needs
+    (v .inv .0 ∙ scan-turn (v .refusal) (v .b) (a .points .now) (v .i) (omega arith) (y .result) (x .result) (x .ensures ∙ ap (enlarge (v .b)) (at-point .point-at .ensures)) (y .ensures), omega arith, omega arith, refl, omega arith)
 
 returns : tie.Need-returns Inv-loop μ-loop
 returns c =
-    let at = c .before .before in
-    let a = at .before .before .args in
-    let v = at .loop in
+    let at-loop = c .before in
+    let a = at-loop .before .before .args in
+    let v = at-loop .loop in
     let e : v .i ≡ length (a .points .now) = omega arith in
-    c .answer .ensures
-    ∙ sym (v .inv .0 ∙ ap (λ (i : ℕ). scannedFrom (v .refusal) (v .b) (pointsOf (drop i (a .points .now)))) e ∙ scan-end (v .refusal) (v .b) (a .points .now))
+    sym (v .inv .0 ∙ ap (λ (i : ℕ). scannedFrom (v .refusal) (v .b) (pointsOf (drop i (a .points .now)))) e ∙ scan-end (v .refusal) (v .b) (a .points .now))
 
 pub scan-points-spec : {M : Type 1} → statement M
 scan-points-spec =
@@ -76,15 +61,10 @@ scan-points-spec =
     Inv-loop
     μ-loop
     loop-holds
-    mul-scan-point
-    shared-slice-read-scan-point
-    add-scan-point
-    mul-scan-point-2
-    shared-slice-read-scan-point-2
+    point-at-requires
     scan-point-requires
     first-refusal-requires
     add-i
     loop-less
     loop-again
-    answer-requires
     returns)

@@ -1,22 +1,15 @@
 -- `r1::reading::read_with`: at each return the answer is the definition's, under the tests that led there. Assumes nothing.
 use Rattle.r1.specs.Reading.{readWith}
-use borrow.Author.Needs.{needs}
 use Rattle.r1.proofs.reading.read_with.Statement.{statement}
 use Rattle.r1.proofs.reading.read_with.Tie as tie
 
-read-one-requires : tie.Need-read-one-requires
-read-one-requires c κs = search needs
-
-read-number-requires : tie.Need-read-number-requires
-read-number-requires c κs = search needs
-
-first-refusal-requires : tie.Need-first-refusal-requires
-first-refusal-requires c κs = search needs
-
 returns : tie.Need-returns
 unfolding readWith
-returns c = simp (← c .before .first-refusal .ensures, ← c .before .before .read-number .ensures, ← c .before .before .before .read-one .ensures)
+returns c =
+    let at-refusal = c .before in
+    let at-number = at-refusal .before in
+    let at-read = at-number .before in
+    simp (← at-refusal .first-refusal .ensures, ← at-number .read-number .ensures, ← at-read .read-one .ensures)
 
 pub read-with-spec : {M : Type 1} → statement M
-read-with-spec =
-    tie.close (tie.spec read-one-requires read-number-requires first-refusal-requires returns)
+read-with-spec = tie.close (tie.spec (λ c κs. tt) (λ c κs. tt) (λ c κs. tt) returns)

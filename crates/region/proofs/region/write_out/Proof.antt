@@ -5,16 +5,16 @@ use mathlib.Core.List.{_++_}
 use Prim.Native.Nat.{ℕ, _-_, _*_, _≤_, _<_}
 use native.Mathlib.Omega.{arith}
 use lib.ListN.{length, drop, take, length-set}
+use Rattle.arcs.specs.Arrays.{zip}
 use Rattle.region.specs.Region.{across}
-use Rattle.region.specs.Answers.{numbers}
-use Rattle.region.specs.Arrays.{zip}
 use Rattle.region.proofs.Written.{out-none, out-turn}
 use borrow.Author.Needs.{needs}
+use Rattle.lists.specs.Rects.{numbersOf}
 use Rattle.region.proofs.region.write_out.Statement.{statement}
 use Rattle.region.proofs.region.write_out.Tie as tie
 
 abbrev Inv-loop : tie.InvT-loop
-Inv-loop lo hi n b out₀ k₀ out k = (out ≡ numbers (across b (take k (zip lo hi))) ++ drop (4 * k) out₀) × (k ≤ n) × (n ≤ 1024) × (n ≤ length lo) × (length lo ≡ length hi) × (4 * n ≤ length out₀) × (length out ≡ length out₀)
+Inv-loop lo hi n b out₀ k₀ out k = (out ≡ numbersOf (across b (take k (zip lo hi))) ++ drop (4 * k) out₀) × (k ≤ n) × (n ≤ 1024) × (n ≤ length lo) × (length lo ≡ length hi) × (4 * n ≤ length out₀) × (length out ≡ length out₀)
 
 abbrev μ-loop : tie.MeasureT-loop
 μ-loop lo hi n b out₀ k₀ out k = n - k
@@ -103,7 +103,7 @@ returns c =
     let v = c .before .loop in
     let a = c .before .before .args in
     let e : v .k ≡ a .n = omega arith in
-    v .inv .0 ∙ ap (λ (k : ℕ). numbers (across (a .b) (take k (zip (a .lo .now) (a .hi .now)))) ++ drop (4 * k) (a .out .now)) e
+    v .inv .0 ∙ ap (λ (k : ℕ). numbersOf (across (a .b) (take k (zip (a .lo .now) (a .hi .now)))) ++ drop (4 * k) (a .out .now)) e
 
 pub write-out-spec : {M : Type 1} → statement M
 write-out-spec =

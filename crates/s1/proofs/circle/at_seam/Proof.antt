@@ -4,12 +4,9 @@ use borrow.Author.Needs.{needs}
 use Rattle.s1.proofs.circle.at_seam.Statement.{statement}
 use Rattle.s1.proofs.circle.at_seam.Tie as tie
 
-pick-requires : tie.Need-pick-requires
-pick-requires c κs = search needs
-
 returns : tie.Need-returns
 unfolding seam
 returns c = simp (← c .pick .ensures)
 
 pub at-seam-spec : {M : Type 1} → statement M
-at-seam-spec = tie.close (tie.spec pick-requires returns)
+at-seam-spec = tie.close (tie.spec (λ c κs. search needs) returns)

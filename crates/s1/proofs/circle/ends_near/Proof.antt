@@ -4,26 +4,14 @@ use borrow.Author.Needs.{needs}
 use Rattle.s1.proofs.circle.ends_near.Statement.{statement}
 use Rattle.s1.proofs.circle.ends_near.Tie as tie
 
-abs-requires : tie.Need-abs-requires
-abs-requires c κs = search needs
-
-abs-requires-2 : tie.Need-abs-requires-2
-abs-requires-2 c κs = search needs
-
-len-requires : tie.Need-len-requires
-len-requires c κs = search needs
-
-len-requires-2 : tie.Need-len-requires-2
-len-requires-2 c κs = search needs
-
-abs-requires-3 : tie.Need-abs-requires-3
-abs-requires-3 c κs = search needs
-
 returns : tie.Need-returns
 unfolding nearEnds
-returns c = simp (← c .abs3 .ensures, ← c .before .len2 .ensures, ← c .before .before .len .ensures, ← c .before .before .before .abs2 .ensures, ← c .before .before .before .before .before .before .abs .ensures)
+returns c =
+    let at-len2 = c .before in
+    let at-len = at-len2 .before in
+    let at-abs2 = at-len .before in
+    let at-abs = at-abs2 .before .before .before in
+    simp (← c .abs3 .ensures, ← at-len2 .len2 .ensures, ← at-len .len .ensures, ← at-abs2 .abs2 .ensures, ← at-abs .abs .ensures)
 
 pub ends-near-spec : {M : Type 1} → statement M
-ends-near-spec =
-    tie.close
-    (tie.spec abs-requires abs-requires-2 len-requires len-requires-2 abs-requires-3 returns)
+ends-near-spec = tie.close (tie.spec (λ c κs. search needs) (λ c κs. search needs) (λ c κs. search needs) (λ c κs. search needs) (λ c κs. search needs) returns)

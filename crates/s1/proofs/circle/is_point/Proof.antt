@@ -1,11 +1,11 @@
 -- `s1::circle::is_point`: at each return the answer is the definition's, under the tests that led there. Assumes nothing.
-use Rattle.s1.specs.Circle.{single}
+use Rattle.s1.specs.Circle.{isPoint}
 use borrow.Author.Needs.{needs}
 use Rattle.s1.proofs.circle.is_point.Statement.{statement}
 use Rattle.s1.proofs.circle.is_point.Tie as tie
 
 returns : tie.Need-returns
-unfolding single
+unfolding isPoint
 returns c = search needs
 
 pub is-point-spec : {M : Type 1} → statement M

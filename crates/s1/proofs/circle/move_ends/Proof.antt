@@ -4,22 +4,13 @@ use borrow.Author.Needs.{needs}
 use Rattle.s1.proofs.circle.move_ends.Statement.{statement}
 use Rattle.s1.proofs.circle.move_ends.Tie as tie
 
-remainder-requires : tie.Need-remainder-requires
-remainder-requires c κs = search needs
-
-remainder-requires-2 : tie.Need-remainder-requires-2
-remainder-requires-2 c κs = search needs
-
-new-requires : tie.Need-new-requires
-new-requires c κs = search needs
-
-pick-requires : tie.Need-pick-requires
-pick-requires c κs = search needs
-
 returns : tie.Need-returns
 unfolding moved
-returns c = simp (← c .pick .ensures, ← c .before .before .new .ensures, ← c .before .before .before .remainder2 .ensures, ← c .before .before .before .before .before .remainder .ensures)
+returns c =
+    let at-new = c .before .before in
+    let at-remainder2 = at-new .before in
+    let at-remainder = at-remainder2 .before .before in
+    simp (← c .pick .ensures, ← at-new .new .ensures, ← at-remainder2 .remainder2 .ensures, ← at-remainder .remainder .ensures)
 
 pub move-ends-spec : {M : Type 1} → statement M
-move-ends-spec =
-    tie.close (tie.spec remainder-requires remainder-requires-2 new-requires pick-requires returns)
+move-ends-spec = tie.close (tie.spec (λ c κs. search needs) (λ c κs. search needs) (λ c κs. search needs) (λ c κs. search needs) returns)

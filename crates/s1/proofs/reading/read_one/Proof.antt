@@ -4,19 +4,9 @@ use borrow.Author.Needs.{needs}
 use Rattle.s1.proofs.reading.read_one.Statement.{statement}
 use Rattle.s1.proofs.reading.read_one.Tie as tie
 
-refusal-of-requires : tie.Need-refusal-of-requires
-refusal-of-requires c κs = search needs
-
-zero-read-requires : tie.Need-zero-read-requires
-zero-read-requires c κs = search needs
-
-zero-read-requires-2 : tie.Need-zero-read-requires-2
-zero-read-requires-2 c κs = search needs
-
 returns : tie.Need-returns
 unfolding readOne
 returns c = simp (← c .zero-read2 .ensures, ← c .before .zero-read .ensures, ← c .before .before .refusal-of .ensures)
 
 pub read-one-spec : {M : Type 1} → statement M
-read-one-spec =
-    tie.close (tie.spec refusal-of-requires zero-read-requires zero-read-requires-2 returns)
+read-one-spec = tie.close (tie.spec (λ c κs. search needs) (λ c κs. search needs) (λ c κs. search needs) returns)

@@ -4,12 +4,6 @@ use borrow.Author.Needs.{needs}
 use Rattle.s1.proofs.reading.read_point.Statement.{statement}
 use Rattle.s1.proofs.reading.read_point.Tie as tie
 
-zero-read-requires : tie.Need-zero-read-requires
-zero-read-requires c κs = search needs
-
-on-circle-requires : tie.Need-on-circle-requires
-on-circle-requires c κs = search needs
-
 returns : tie.Need-returns
 unfolding readPoint
 returns c = simp (c .if1 .taken, ← c .before .on-circle .ensures, ← c .before .before .zero-read .ensures)
@@ -19,4 +13,4 @@ unfolding readPoint
 returns-2 c = simp (c .if1 .left, ← c .before .on-circle .ensures, ← c .before .before .zero-read .ensures)
 
 pub read-point-spec : {M : Type 1} → statement M
-read-point-spec = tie.close (tie.spec zero-read-requires on-circle-requires returns returns-2)
+read-point-spec = tie.close (tie.spec (λ c κs. search needs) (λ c κs. search needs) returns returns-2)

@@ -4,19 +4,9 @@ use borrow.Author.Needs.{needs}
 use Rattle.s1.proofs.reading.read_with_margin.Statement.{statement}
 use Rattle.s1.proofs.reading.read_with_margin.Tie as tie
 
-read-one-requires : tie.Need-read-one-requires
-read-one-requires c κs = search needs
-
-read-number-requires : tie.Need-read-number-requires
-read-number-requires c κs = search needs
-
-first-refusal-requires : tie.Need-first-refusal-requires
-first-refusal-requires c κs = search needs
-
 returns : tie.Need-returns
 unfolding readWithMargin
 returns c = simp (← c .before .first-refusal .ensures, ← c .before .before .read-number .ensures, ← c .before .before .before .read-one .ensures)
 
 pub read-with-margin-spec : {M : Type 1} → statement M
-read-with-margin-spec =
-    tie.close (tie.spec read-one-requires read-number-requires first-refusal-requires returns)
+read-with-margin-spec = tie.close (tie.spec (λ c κs. search needs) (λ c κs. search needs) (λ c κs. search needs) returns)

@@ -3,15 +3,13 @@
 use mathlib.Core.Path.{_≡_, sym, _∙_}
 use mathlib.Core.Bool.{true}
 use lib.Ieee.{binary64, fits}
-use Rattle.s1.specs.Circle.{valid}
-use Rattle.s1.specs.Reading.{usual, readOne}
+use Rattle.s1.specs.Circle.{isValid}
+use Rattle.s1.specs.Devices.{usual}
+use Rattle.s1.specs.Reading.{readOne}
 use Rattle.s1.proofs.Readings.{valid-reach, usual-valid}
 use borrow.Author.Needs.{needs}
 use Rattle.s1.proofs.reading.refusal_of.Statement.{statement}
 use Rattle.s1.proofs.reading.refusal_of.Tie as tie
-
-is-usual-requires : tie.Need-is-usual-requires
-is-usual-requires c κs = search needs
 
 returns : tie.Need-returns
 unfolding readOne
@@ -23,23 +21,14 @@ returns c =
     let v = usual-valid i f g u in
     simp (valid-reach i f g v, v)
 
-is-valid-requires : tie.Need-is-valid-requires
-is-valid-requires c κs = search needs
-
 returns-2 : tie.Need-returns-2
 unfolding readOne
 returns-2 c =
     let i = c .before .before .before .before .args .i in
     let f : fits binary64 (i .lo) ≡ true = search in
     let g : fits binary64 (i .hi) ≡ true = search in
-    let v : valid i ≡ true = sym (c .before .is-valid .ensures) ∙ c .if2 .taken in
+    let v : isValid i ≡ true = sym (c .before .is-valid .ensures) ∙ c .if2 .taken in
     simp (valid-reach i f g v, v)
-
-in-reach-requires : tie.Need-in-reach-requires
-in-reach-requires c κs = search needs
-
-in-reach-requires-2 : tie.Need-in-reach-requires-2
-in-reach-requires-2 c κs = search needs
 
 returns-3 : tie.Need-returns-3
 unfolding readOne
@@ -50,6 +39,4 @@ unfolding readOne
 returns-4 c = simp (c .if3 .left, ← c .before .in-reach2 .ensures, ← c .before .before .in-reach .ensures, c .before .before .before .if2 .left, ← c .before .before .before .before .is-valid .ensures)
 
 pub refusal-of-spec : {M : Type 1} → statement M
-refusal-of-spec =
-    tie.close
-    (tie.spec is-usual-requires returns is-valid-requires returns-2 in-reach-requires in-reach-requires-2 returns-3 returns-4)
+refusal-of-spec = tie.close (tie.spec (λ c κs. search needs) returns (λ c κs. search needs) returns-2 (λ c κs. search needs) (λ c κs. search needs) returns-3 returns-4)

@@ -10,12 +10,6 @@ use borrow.Author.Needs.{needs}
 use Rattle.s1.proofs.reading.refusal_of_ends.Statement.{statement}
 use Rattle.s1.proofs.reading.refusal_of_ends.Tie as tie
 
-on-circle-requires : tie.Need-on-circle-requires
-on-circle-requires c κs = search needs
-
-on-circle-requires-2 : tie.Need-on-circle-requires-2
-on-circle-requires-2 c κs = search needs
-
 returns : tie.Need-returns
 unfolding readEnds
 returns c =
@@ -25,28 +19,25 @@ returns c =
     let v : onCircle (a .lo) && onCircle (a .hi) ≡ true = simp (← c .before .on-circle2 .ensures, ← c .before .before .on-circle .ensures) (c .if1 .taken) in
     simp (circle-reach (a .lo) f (and-l (onCircle (a .lo)) (onCircle (a .hi)) v), circle-reach (a .hi) g (and-r (onCircle (a .lo)) (onCircle (a .hi)) v), v)
 
-in-reach-requires : tie.Need-in-reach-requires
-in-reach-requires c κs = search needs
-
-in-reach-requires-2 : tie.Need-in-reach-requires-2
-in-reach-requires-2 c κs = search needs
-
 returns-2 : tie.Need-returns-2
 unfolding readEnds
-returns-2 c = simp (c .if2 .taken, ← c .before .in-reach2 .ensures, ← c .before .before .in-reach .ensures, c .before .before .before .if1 .left, ← c .before .before .before .before .on-circle2 .ensures, ← c .before .before .before .before .before .on-circle .ensures)
+returns-2 c =
+    let at-in-reach2 = c .before in
+    let at-in-reach = at-in-reach2 .before in
+    let at-if1 = at-in-reach .before in
+    let at-on-circle2 = at-if1 .before in
+    let at-on-circle = at-on-circle2 .before in
+    simp (c .if2 .taken, ← at-in-reach2 .in-reach2 .ensures, ← at-in-reach .in-reach .ensures, at-if1 .if1 .left, ← at-on-circle2 .on-circle2 .ensures, ← at-on-circle .on-circle .ensures)
 
 returns-3 : tie.Need-returns-3
 unfolding readEnds
-returns-3 c = simp (c .if2 .left, ← c .before .in-reach2 .ensures, ← c .before .before .in-reach .ensures, c .before .before .before .if1 .left, ← c .before .before .before .before .on-circle2 .ensures, ← c .before .before .before .before .before .on-circle .ensures)
+returns-3 c =
+    let at-in-reach2 = c .before in
+    let at-in-reach = at-in-reach2 .before in
+    let at-if1 = at-in-reach .before in
+    let at-on-circle2 = at-if1 .before in
+    let at-on-circle = at-on-circle2 .before in
+    simp (c .if2 .left, ← at-in-reach2 .in-reach2 .ensures, ← at-in-reach .in-reach .ensures, at-if1 .if1 .left, ← at-on-circle2 .on-circle2 .ensures, ← at-on-circle .on-circle .ensures)
 
 pub refusal-of-ends-spec : {M : Type 1} → statement M
-refusal-of-ends-spec =
-    tie.close
-    (tie.spec
-    on-circle-requires
-    on-circle-requires-2
-    returns
-    in-reach-requires
-    in-reach-requires-2
-    returns-2
-    returns-3)
+refusal-of-ends-spec = tie.close (tie.spec (λ c κs. search needs) (λ c κs. search needs) returns (λ c κs. search needs) (λ c κs. search needs) returns-2 returns-3)

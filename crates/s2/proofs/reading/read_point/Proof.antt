@@ -1,17 +1,7 @@
 -- `s2::reading::read_point`: at each return the answer is the definition's, under the tests that led there. Assumes nothing.
 use Rattle.s2.specs.Reading.{readPoint}
-use borrow.Author.Needs.{needs}
 use Rattle.s2.proofs.reading.read_point.Statement.{statement}
 use Rattle.s2.proofs.reading.read_point.Tie as tie
-
-zero-read-requires : tie.Need-zero-read-requires
-zero-read-requires c κs = search needs
-
-zero-read-requires-2 : tie.Need-zero-read-requires-2
-zero-read-requires-2 c κs = search needs
-
-is-latlng-requires : tie.Need-is-latlng-requires
-is-latlng-requires c κs = search needs
 
 returns : tie.Need-returns
 unfolding readPoint
@@ -22,6 +12,4 @@ unfolding readPoint
 returns-2 c = simp (c .if1 .left, ← c .before .is-latlng .ensures, ← c .before .before .zero-read2 .ensures, ← c .before .before .before .zero-read .ensures)
 
 pub read-point-spec : {M : Type 1} → statement M
-read-point-spec =
-    tie.close
-    (tie.spec zero-read-requires zero-read-requires-2 is-latlng-requires returns returns-2)
+read-point-spec = tie.close (tie.spec (λ c κs. tt) (λ c κs. tt) (λ c κs. tt) returns returns-2)

@@ -1,4 +1,5 @@
 -- `stream::gather::ended`: at each return the answer is the definition's, under the test that led there. Assumes nothing.
+use native.Mathlib.Omega.{arith}
 use borrow.Author.Needs.{needs}
 use Rattle.stream.proofs.Streams.{ended-none, ended-some}
 use Rattle.stream.proofs.gather.ended.Statement.{statement}
@@ -23,7 +24,7 @@ over-requires : tie.Need-over-requires
 over-requires c κs = search needs
 
 returns-2 : tie.Need-returns-2
-returns-2 c = ended-some _ _ _ (c .over .ensures)
+returns-2 c = ended-some _ _ _ (omega arith) (c .over .ensures)
 
 pub ended-spec : {M : Type 1} → statement M
 ended-spec =

@@ -6,8 +6,9 @@ use native.Mathlib.Omega.{arith}
 use borrow.Author.Needs.{needs}
 use lib.ListN.{length}
 use Rattle.stream.specs.declared.gather.Gathered.{Gathered}
-use Rattle.stream.specs.Stream.{gathered}
-use Rattle.stream.proofs.Streams.{Held, starts, good, placed-length, bad, stops, full, ended-few}
+use Rattle.stream.specs.Inside.{gathered}
+use Rattle.lists.proofs.RectLists.{length-put}
+use Rattle.stream.proofs.Streams.{Held, starts, good, bad, stops, full, ended-few}
 use Rattle.stream.proofs.gather.gather.Statement.{statement}
 use Rattle.stream.proofs.gather.gather.Tie as tie
 
@@ -29,7 +30,7 @@ same-length c = search needs
 returns : tie.Need-returns Inv-loop μ-loop
 returns c =
     let at = c .before .before in
-    record { is = stops _ (at .loop .list) (at .loop .k) (c .before .loop-test .taken) (c .if1 .taken) (at .loop .inv .0); few = omega arith }
+    record { is = stops _ (at .loop .list) (at .loop .k) (at .loop .inv .0) (c .if1 .taken); few = omega arith }
 
 sub-read-record : tie.Need-sub-read-record Inv-loop μ-loop
 sub-read-record c = search needs
@@ -59,13 +60,13 @@ returns-2 : tie.Need-returns-2 Inv-loop μ-loop
 returns-2 c =
     let at = c .before .before .before .before .before .before .before in
     let x = c .before .before .before .read-record in
-    record { is = bad _ (at .loop .list) (at .loop .k) (x .result) _ (c .number-of .result) (omega arith) (omega arith) (x .ensures) (c .before .enum-told .given .1) (c .number-of .ensures) (at .loop .inv .0); few = omega arith }
+    record { is = bad _ (at .loop .list) (at .loop .k) (at .loop .inv .0) (x .result) _ (c .number-of .result) (omega arith) (omega arith) (x .ensures) (c .before .enum-told .given .1) (c .number-of .ensures); few = omega arith }
 
-mul-place : tie.Need-mul-place Inv-loop μ-loop
-mul-place c = search needs
+mul-put-rect : tie.Need-mul-put-rect Inv-loop μ-loop
+mul-put-rect c = search needs
 
-place-requires : tie.Need-place-requires Inv-loop μ-loop
-place-requires c κs = search needs
+put-rect-requires : tie.Need-put-rect-requires Inv-loop μ-loop
+put-rect-requires c κs = search needs
 
 add-k : tie.Need-add-k Inv-loop μ-loop
 add-k c = search needs
@@ -77,9 +78,9 @@ loop-again : tie.Need-loop-again Inv-loop μ-loop
 loop-again c =
     let at = c .before .before .before .before .before .before .before .before .before .before .before in
     let x = c .before .before .before .before .before .before .before .read-record in (
-      good _ (at .loop .list) _ (at .loop .k) (x .result) _ (omega arith) (omega arith) (at .loop .inv .2) (x .ensures) (c .before .before .before .before .before .x .given .1) (c .before .before .place .ensures) (at .loop .inv .0),
+      good _ (at .loop .list) (at .loop .k) (at .loop .inv .0) _ (x .result) _ (omega arith) (omega arith) (at .loop .inv .2) (x .ensures) (c .before .before .before .before .before .x .given .1) (c .before .before .put-rect .ensures),
       omega arith,
-      placed-length (at .loop .list) _ _ _ _ (c .before .before .place .ensures) (at .loop .inv .2),
+      ap length (c .before .before .put-rect .ensures) ∙ length-put _ _ (at .loop .list) ∙ at .loop .inv .2,
     )
 
 ended-requires : tie.Need-ended-requires Inv-loop μ-loop
@@ -92,7 +93,7 @@ returns-3 : tie.Need-returns-3 Inv-loop μ-loop
 returns-3 c =
     let at = c .before .before in
     let all : at .loop .k ≡ 512 = omega arith in
-    record { is = full _ (at .loop .list) (at .loop .k) all (at .loop .inv .0) ∙ ap (λ (g : Gathered). gathered g (at .loop .list)) (sym (c .ended .ensures)); few = ended-few _ _ _ (c .ended .ensures) (at .loop .inv .1) }
+    record { is = full _ (at .loop .list) (at .loop .k) (at .loop .inv .0) all ∙ ap (λ (g : Gathered). gathered g (at .loop .list)) (sym (c .ended .ensures)); few = ended-few _ _ _ (c .ended .ensures) (at .loop .inv .1) }
 
 pub gather-spec : {M : Type 1} → statement M
 gather-spec =
@@ -113,8 +114,8 @@ gather-spec =
     number-of-requires
     same-length-2
     returns-2
-    mul-place
-    place-requires
+    mul-put-rect
+    put-rect-requires
     add-k
     loop-less
     loop-again

@@ -1,5 +1,6 @@
 -- `stream::record::is_mark`: at each return the answer is the definition's, under the arm that led there. Assumes nothing.
-use Rattle.stream.specs.Records.{isMark, isSecond}
+use Rattle.stream.specs.Records.{isMark}
+use Rattle.stream.specs.Inside.{isSecond}
 use borrow.Author.Needs.{needs}
 use borrow.Author.Tests.{ne-eqb}
 use Rattle.stream.proofs.record.is_mark.Statement.{statement}

@@ -1,12 +1,12 @@
 -- `stream::record::is_record`: at each return the answer is the definition's, under the test that led there. Assumes nothing.
 use borrow.Author.Tests.{le-leb, lt-leb}
-use Rattle.stream.specs.Records.{whole}
+use Rattle.stream.specs.Records.{wholeRecord}
 use borrow.Author.Needs.{needs}
 use Rattle.stream.proofs.record.is_record.Statement.{statement}
 use Rattle.stream.proofs.record.is_record.Tie as tie
 
 returns : tie.Need-returns
-unfolding whole
+unfolding wholeRecord
 returns c = simp (lt-leb _ _ (c .if1 .taken))
 
 shared-slice-read-is-mark : tie.Need-shared-slice-read-is-mark
@@ -19,7 +19,7 @@ is-mark-requires : tie.Need-is-mark-requires
 is-mark-requires c κs = search needs
 
 returns-2 : tie.Need-returns-2
-unfolding whole
+unfolding wholeRecord
 returns-2 c = simp (le-leb _ _ (c .before .before .before .if1 .left), c .is-mark .ensures)
 
 pub is-record-spec : {M : Type 1} → statement M

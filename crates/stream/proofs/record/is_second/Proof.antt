@@ -1,5 +1,5 @@
 -- `stream::record::is_second`: at each return the answer is the definition's, under the arm that led there. Assumes nothing.
-use Rattle.stream.specs.Records.{isSecond}
+use Rattle.stream.specs.Inside.{isSecond}
 use borrow.Author.Tests.{ne-eqb}
 use Rattle.stream.proofs.record.is_second.Statement.{statement}
 use Rattle.stream.proofs.record.is_second.Tie as tie

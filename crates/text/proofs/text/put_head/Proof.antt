@@ -6,7 +6,7 @@ use native.Mathlib.Omega.{arith}
 use borrow.Author.Needs.{needs}
 use lib.ListN.{length, set, length-set}
 use Rattle.text.specs.Text.{decimalText}
-use Rattle.text.specs.Put.{put}
+use Rattle.text.specs.Inside.{put}
 use Rattle.text.proofs.Lines.{put-head}
 use Rattle.text.proofs.text.put_head.Statement.{statement}
 use Rattle.text.proofs.text.put_head.Tie as tie

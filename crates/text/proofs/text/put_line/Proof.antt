@@ -6,7 +6,7 @@ use borrow.Author.Needs.{needs}
 use lib.ListN.{getD}
 use lib.Ieee.{Float, nan}
 use Rattle.text.specs.Text.{wordText}
-use Rattle.text.specs.Put.{put}
+use Rattle.text.specs.Inside.{put}
 use Rattle.text.proofs.Lines.{put-line}
 use Rattle.text.proofs.text.put_line.Statement.{statement}
 use Rattle.text.proofs.text.put_line.Tie as tie

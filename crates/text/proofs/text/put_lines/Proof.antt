@@ -6,7 +6,7 @@ use native.Mathlib.Omega.{arith}
 use borrow.Author.Needs.{needs}
 use lib.ListN.{length, drop}
 use Rattle.text.specs.Text.{linesText}
-use Rattle.text.specs.Put.{put}
+use Rattle.text.specs.Inside.{put}
 use Rattle.text.proofs.Lines.{lines-none, lines-turn, lines-all}
 use Rattle.text.proofs.text.put_lines.Statement.{statement}
 use Rattle.text.proofs.text.put_lines.Tie as tie

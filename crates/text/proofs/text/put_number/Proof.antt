@@ -6,7 +6,7 @@ use native.Mathlib.Omega.{arith}
 use borrow.Author.Needs.{needs}
 use lib.ListN.{length, set, length-set}
 use Rattle.text.specs.Text.{hex, numberText}
-use Rattle.text.specs.Put.{put}
+use Rattle.text.specs.Inside.{put}
 use Rattle.text.proofs.Puts.{put-none, put-digit, put-no-digit}
 use Rattle.text.proofs.text.put_number.Statement.{statement}
 use Rattle.text.proofs.text.put_number.Tie as tie

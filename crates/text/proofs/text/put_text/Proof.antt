@@ -5,7 +5,7 @@ use Prim.Native.Nat.{_+_, _-_, _≤_}
 use native.Mathlib.Omega.{arith}
 use borrow.Author.Needs.{needs}
 use lib.ListN.{length, drop, length-set}
-use Rattle.text.specs.Put.{put}
+use Rattle.text.specs.Inside.{put}
 use Rattle.text.proofs.Puts.{put-none, put-byte, put-all}
 use Rattle.text.proofs.text.put_text.Statement.{statement}
 use Rattle.text.proofs.text.put_text.Tie as tie

@@ -6,7 +6,7 @@ use native.Mathlib.Omega.{arith}
 use borrow.Author.Needs.{needs}
 use lib.ListN.{length}
 use Rattle.text.specs.Text.{AT, decimalText, headText, refusedAtText}
-use Rattle.text.specs.Put.{put}
+use Rattle.text.specs.Inside.{put}
 use Rattle.text.proofs.Lengths.{length-refused-at}
 use Rattle.text.proofs.Lines.{put-refused-at}
 use Rattle.text.proofs.Answered.{wrote-fits, wrote-none, left-fits, left-none}

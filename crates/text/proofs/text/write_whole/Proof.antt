@@ -8,7 +8,7 @@ use borrow.Author.Needs.{needs}
 use lib.ListN.{length}
 use lib.Ieee.{Float}
 use Rattle.text.specs.Text.{linesText, piecesText}
-use Rattle.text.specs.Put.{put}
+use Rattle.text.specs.Inside.{put}
 use Rattle.text.proofs.Lengths.{length-pieces}
 use Rattle.text.proofs.Lines.{put-pieces}
 use Rattle.text.proofs.Answered.{wrote-fits, wrote-none, left-fits, left-none}

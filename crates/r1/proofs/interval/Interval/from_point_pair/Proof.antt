@@ -1,45 +1,27 @@
 -- `r1::interval::Interval::from_point_pair`: at each return the answer is the definition's, under the tests that led there. Assumes nothing.
-use Rattle.r1.specs.Answers.{fromPointPair}
 use borrow.Author.Tests.{eq-eqb, ne-eqb}
-use borrow.Author.Needs.{needs}
+use Rattle.r1.specs.Answers.{fromPointPair}
 use Rattle.r1.proofs.interval.Interval.from_point_pair.Statement.{statement}
 use Rattle.r1.proofs.interval.Interval.from_point_pair.Tie as tie
 
-read-number-requires : tie.Need-read-number-requires
-read-number-requires c κs = search needs
-
-read-number-requires-2 : tie.Need-read-number-requires-2
-read-number-requires-2 c κs = search needs
-
-first-refusal-requires : tie.Need-first-refusal-requires
-first-refusal-requires c κs = search needs
-
-from-point-pair-requires : tie.Need-from-point-pair-requires
-from-point-pair-requires c κs = search needs
-
-accepted-requires : tie.Need-accepted-requires
-accepted-requires c κs = search needs
-
-refused-requires : tie.Need-refused-requires
-refused-requires c κs = search needs
-
 returns : tie.Need-returns
 unfolding fromPointPair
-returns c = simp (← c .accepted .ensures, ← c .before .from-point-pair .ensures, eq-eqb _ _ (c .before .before .if1 .taken), ← c .before .before .before .first-refusal .ensures, ← c .before .before .before .before .read-number2 .ensures, ← c .before .before .before .before .before .read-number .ensures)
+returns c =
+    let at-line = c .before in
+    let at-test = at-line .before in
+    let at-refusal = at-test .before in
+    let at-q = at-refusal .before in
+    let at-p = at-q .before in
+    simp (← c .accepted .ensures, ← at-line .from-point-pair .ensures, eq-eqb _ _ (at-test .if1 .taken), ← at-refusal .first-refusal .ensures, ← at-q .read-number2 .ensures, ← at-p .read-number .ensures)
 
 returns-2 : tie.Need-returns-2
 unfolding fromPointPair
-returns-2 c = simp (← c .refused .ensures, ne-eqb _ _ (c .before .if1 .left), ← c .before .before .first-refusal .ensures, ← c .before .before .before .read-number2 .ensures, ← c .before .before .before .before .read-number .ensures)
+returns-2 c =
+    let at-test = c .before in
+    let at-refusal = at-test .before in
+    let at-q = at-refusal .before in
+    let at-p = at-q .before in
+    simp (← c .refused .ensures, ne-eqb _ _ (at-test .if1 .left), ← at-refusal .first-refusal .ensures, ← at-q .read-number2 .ensures, ← at-p .read-number .ensures)
 
 pub from-point-pair-spec : {M : Type 1} → statement M
-from-point-pair-spec =
-    tie.close
-    (tie.spec
-    read-number-requires
-    read-number-requires-2
-    first-refusal-requires
-    from-point-pair-requires
-    accepted-requires
-    refused-requires
-    returns
-    returns-2)
+from-point-pair-spec = tie.close (tie.spec (λ c κs. tt) (λ c κs. tt) (λ c κs. tt) (λ c κs. tt) (λ c κs. tt) (λ c κs. tt) returns returns-2)

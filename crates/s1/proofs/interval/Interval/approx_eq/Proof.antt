@@ -1,37 +1,12 @@
--- `s1::interval::Interval::approx_eq`: at each return the answer is the definition's, under the tests that led there. Assumes nothing.
-use Rattle.s1.specs.Answers.{approxEq}
-use borrow.Author.Tests.{eq-eqb, ne-eqb}
+-- `s1::interval::Interval::approx_eq`: what is answered under the operands' refusal is the definition's value. Assumes nothing.
 use borrow.Author.Needs.{needs}
+use Rattle.s1.specs.Answers.{approxEq}
 use Rattle.s1.proofs.interval.Interval.approx_eq.Statement.{statement}
 use Rattle.s1.proofs.interval.Interval.approx_eq.Tie as tie
 
-read-two-requires : tie.Need-read-two-requires
-read-two-requires c κs = search needs
-
-approx-eq-by-requires : tie.Need-approx-eq-by-requires
-approx-eq-by-requires c κs = search needs
-
-accepted-requires : tie.Need-accepted-requires
-accepted-requires c κs = search needs
-
-refused-requires : tie.Need-refused-requires
-refused-requires c κs = search needs
-
 returns : tie.Need-returns
 unfolding approxEq
-returns c = simp (← c .accepted .ensures, ← c .before .approx-eq-by .ensures, eq-eqb _ _ (c .before .before .if1 .taken), ← c .before .before .before .before .read-two .ensures)
-
-returns-2 : tie.Need-returns-2
-unfolding approxEq
-returns-2 c = simp (← c .refused .ensures, ne-eqb _ _ (c .before .if1 .left), ← c .before .before .before .read-two .ensures)
+returns c = simp (← c .given .ensures, ← c .before .approx-eq-by .ensures, ← c .before .before .read-two .ensures)
 
 pub approx-eq-spec : {M : Type 1} → statement M
-approx-eq-spec =
-    tie.close
-    (tie.spec
-    read-two-requires
-    approx-eq-by-requires
-    accepted-requires
-    refused-requires
-    returns
-    returns-2)
+approx-eq-spec = tie.close (tie.spec (λ c κs. search needs) (λ c κs. search needs) (λ c κs. search needs) returns)

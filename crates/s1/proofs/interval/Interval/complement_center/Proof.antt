@@ -5,18 +5,6 @@ use borrow.Author.Needs.{needs}
 use Rattle.s1.proofs.interval.Interval.complement_center.Statement.{statement}
 use Rattle.s1.proofs.interval.Interval.complement_center.Tie as tie
 
-read-one-requires : tie.Need-read-one-requires
-read-one-requires c κs = search needs
-
-complement-center-requires : tie.Need-complement-center-requires
-complement-center-requires c κs = search needs
-
-accepted-requires : tie.Need-accepted-requires
-accepted-requires c κs = search needs
-
-refused-requires : tie.Need-refused-requires
-refused-requires c κs = search needs
-
 returns : tie.Need-returns
 unfolding complementCenter
 returns c = simp (← c .accepted .ensures, ← c .before .complement-center .ensures, eq-eqb _ _ (c .before .before .if1 .taken), ← c .before .before .before .before .read-one .ensures)
@@ -26,12 +14,4 @@ unfolding complementCenter
 returns-2 c = simp (← c .refused .ensures, ne-eqb _ _ (c .before .if1 .left), ← c .before .before .before .read-one .ensures)
 
 pub complement-center-spec : {M : Type 1} → statement M
-complement-center-spec =
-    tie.close
-    (tie.spec
-    read-one-requires
-    complement-center-requires
-    accepted-requires
-    refused-requires
-    returns
-    returns-2)
+complement-center-spec = tie.close (tie.spec (λ c κs. search needs) (λ c κs. search needs) (λ c κs. search needs) returns (λ c κs. search needs) returns-2)

@@ -5,18 +5,6 @@ use borrow.Author.Needs.{needs}
 use Rattle.s1.proofs.interval.Interval.contains.Statement.{statement}
 use Rattle.s1.proofs.interval.Interval.contains.Tie as tie
 
-read-with-point-requires : tie.Need-read-with-point-requires
-read-with-point-requires c κs = search needs
-
-contains-requires : tie.Need-contains-requires
-contains-requires c κs = search needs
-
-accepted-requires : tie.Need-accepted-requires
-accepted-requires c κs = search needs
-
-refused-requires : tie.Need-refused-requires
-refused-requires c κs = search needs
-
 returns : tie.Need-returns
 unfolding contains
 returns c = simp (← c .accepted .ensures, ← c .before .contains .ensures, eq-eqb _ _ (c .before .before .if1 .taken), ← c .before .before .before .before .read-with-point .ensures)
@@ -26,12 +14,4 @@ unfolding contains
 returns-2 c = simp (← c .refused .ensures, ne-eqb _ _ (c .before .if1 .left), ← c .before .before .before .read-with-point .ensures)
 
 pub contains-spec : {M : Type 1} → statement M
-contains-spec =
-    tie.close
-    (tie.spec
-    read-with-point-requires
-    contains-requires
-    accepted-requires
-    refused-requires
-    returns
-    returns-2)
+contains-spec = tie.close (tie.spec (λ c κs. search needs) (λ c κs. search needs) (λ c κs. search needs) returns (λ c κs. search needs) returns-2)

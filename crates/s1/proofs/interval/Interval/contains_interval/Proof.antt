@@ -1,37 +1,12 @@
--- `s1::interval::Interval::contains_interval`: at each return the answer is the definition's, under the tests that led there. Assumes nothing.
-use Rattle.s1.specs.Answers.{containsInterval}
-use borrow.Author.Tests.{eq-eqb, ne-eqb}
+-- `s1::interval::Interval::contains_interval`: what is answered under the operands' refusal is the definition's value. Assumes nothing.
 use borrow.Author.Needs.{needs}
+use Rattle.s1.specs.Answers.{containsInterval}
 use Rattle.s1.proofs.interval.Interval.contains_interval.Statement.{statement}
 use Rattle.s1.proofs.interval.Interval.contains_interval.Tie as tie
 
-read-two-requires : tie.Need-read-two-requires
-read-two-requires c κs = search needs
-
-contains-interval-requires : tie.Need-contains-interval-requires
-contains-interval-requires c κs = search needs
-
-accepted-requires : tie.Need-accepted-requires
-accepted-requires c κs = search needs
-
-refused-requires : tie.Need-refused-requires
-refused-requires c κs = search needs
-
 returns : tie.Need-returns
 unfolding containsInterval
-returns c = simp (← c .accepted .ensures, ← c .before .contains-interval .ensures, eq-eqb _ _ (c .before .before .if1 .taken), ← c .before .before .before .before .read-two .ensures)
-
-returns-2 : tie.Need-returns-2
-unfolding containsInterval
-returns-2 c = simp (← c .refused .ensures, ne-eqb _ _ (c .before .if1 .left), ← c .before .before .before .read-two .ensures)
+returns c = simp (← c .given .ensures, ← c .before .contains-interval .ensures, ← c .before .before .read-two .ensures)
 
 pub contains-interval-spec : {M : Type 1} → statement M
-contains-interval-spec =
-    tie.close
-    (tie.spec
-    read-two-requires
-    contains-interval-requires
-    accepted-requires
-    refused-requires
-    returns
-    returns-2)
+contains-interval-spec = tie.close (tie.spec (λ c κs. search needs) (λ c κs. search needs) (λ c κs. search needs) returns)

@@ -5,18 +5,6 @@ use borrow.Author.Needs.{needs}
 use Rattle.s1.proofs.interval.Interval.expanded.Statement.{statement}
 use Rattle.s1.proofs.interval.Interval.expanded.Tie as tie
 
-read-with-margin-requires : tie.Need-read-with-margin-requires
-read-with-margin-requires c κs = search needs
-
-expanded-requires : tie.Need-expanded-requires
-expanded-requires c κs = search needs
-
-accepted-requires : tie.Need-accepted-requires
-accepted-requires c κs = search needs
-
-refused-requires : tie.Need-refused-requires
-refused-requires c κs = search needs
-
 returns : tie.Need-returns
 unfolding expanded
 returns c = simp (← c .accepted .ensures, ← c .before .expanded .ensures, eq-eqb _ _ (c .before .before .if1 .taken), ← c .before .before .before .before .read-with-margin .ensures)
@@ -26,12 +14,4 @@ unfolding expanded
 returns-2 c = simp (← c .refused .ensures, ne-eqb _ _ (c .before .if1 .left), ← c .before .before .before .read-with-margin .ensures)
 
 pub expanded-spec : {M : Type 1} → statement M
-expanded-spec =
-    tie.close
-    (tie.spec
-    read-with-margin-requires
-    expanded-requires
-    accepted-requires
-    refused-requires
-    returns
-    returns-2)
+expanded-spec = tie.close (tie.spec (λ c κs. search needs) (λ c κs. search needs) (λ c κs. search needs) returns (λ c κs. search needs) returns-2)

@@ -5,15 +5,6 @@ use borrow.Author.Needs.{needs}
 use Rattle.s1.proofs.interval.Interval.from_line.Statement.{statement}
 use Rattle.s1.proofs.interval.Interval.from_line.Tie as tie
 
-read-one-requires : tie.Need-read-one-requires
-read-one-requires c κs = search needs
-
-accepted-requires : tie.Need-accepted-requires
-accepted-requires c κs = search needs
-
-refused-requires : tie.Need-refused-requires
-refused-requires c κs = search needs
-
 returns : tie.Need-returns
 unfolding fromLine
 returns c = simp (← c .accepted .ensures, eq-eqb _ _ (c .before .if1 .taken), ← c .before .before .before .read-one .ensures)
@@ -23,5 +14,4 @@ unfolding fromLine
 returns-2 c = simp (← c .refused .ensures, ne-eqb _ _ (c .before .if1 .left), ← c .before .before .before .read-one .ensures)
 
 pub from-line-spec : {M : Type 1} → statement M
-from-line-spec =
-    tie.close (tie.spec read-one-requires accepted-requires refused-requires returns returns-2)
+from-line-spec = tie.close (tie.spec (λ c κs. search needs) (λ c κs. search needs) returns (λ c κs. search needs) returns-2)

@@ -5,18 +5,6 @@ use borrow.Author.Needs.{needs}
 use Rattle.s1.proofs.interval.Interval.intersection.Statement.{statement}
 use Rattle.s1.proofs.interval.Interval.intersection.Tie as tie
 
-read-two-requires : tie.Need-read-two-requires
-read-two-requires c κs = search needs
-
-intersection-requires : tie.Need-intersection-requires
-intersection-requires c κs = search needs
-
-accepted-requires : tie.Need-accepted-requires
-accepted-requires c κs = search needs
-
-refused-requires : tie.Need-refused-requires
-refused-requires c κs = search needs
-
 returns : tie.Need-returns
 unfolding intersection
 returns c = simp (← c .accepted .ensures, ← c .before .intersection .ensures, eq-eqb _ _ (c .before .before .if1 .taken), ← c .before .before .before .before .read-two .ensures)
@@ -26,12 +14,4 @@ unfolding intersection
 returns-2 c = simp (← c .refused .ensures, ne-eqb _ _ (c .before .if1 .left), ← c .before .before .before .read-two .ensures)
 
 pub intersection-spec : {M : Type 1} → statement M
-intersection-spec =
-    tie.close
-    (tie.spec
-    read-two-requires
-    intersection-requires
-    accepted-requires
-    refused-requires
-    returns
-    returns-2)
+intersection-spec = tie.close (tie.spec (λ c κs. search needs) (λ c κs. search needs) (λ c κs. search needs) returns (λ c κs. search needs) returns-2)

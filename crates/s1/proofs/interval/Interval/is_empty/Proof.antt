@@ -5,18 +5,6 @@ use borrow.Author.Needs.{needs}
 use Rattle.s1.proofs.interval.Interval.is_empty.Statement.{statement}
 use Rattle.s1.proofs.interval.Interval.is_empty.Tie as tie
 
-read-one-requires : tie.Need-read-one-requires
-read-one-requires c κs = search needs
-
-is-empty-requires : tie.Need-is-empty-requires
-is-empty-requires c κs = search needs
-
-accepted-requires : tie.Need-accepted-requires
-accepted-requires c κs = search needs
-
-refused-requires : tie.Need-refused-requires
-refused-requires c κs = search needs
-
 returns : tie.Need-returns
 unfolding isEmpty
 returns c = simp (← c .accepted .ensures, ← c .before .is-empty .ensures, eq-eqb _ _ (c .before .before .if1 .taken), ← c .before .before .before .before .read-one .ensures)
@@ -26,12 +14,4 @@ unfolding isEmpty
 returns-2 c = simp (← c .refused .ensures, ne-eqb _ _ (c .before .if1 .left), ← c .before .before .before .read-one .ensures)
 
 pub is-empty-spec : {M : Type 1} → statement M
-is-empty-spec =
-    tie.close
-    (tie.spec
-    read-one-requires
-    is-empty-requires
-    accepted-requires
-    refused-requires
-    returns
-    returns-2)
+is-empty-spec = tie.close (tie.spec (λ c κs. search needs) (λ c κs. search needs) (λ c κs. search needs) returns (λ c κs. search needs) returns-2)

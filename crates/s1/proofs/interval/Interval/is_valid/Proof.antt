@@ -1,27 +1,12 @@
--- `s1::interval::Interval::is_valid`: at each return the answer is the definition's, under the tests that led there. Assumes nothing.
-use Rattle.s1.specs.Answers.{isValid}
-use borrow.Author.Tests.{eq-eqb, ne-eqb}
+-- `s1::interval::Interval::is_valid`: what is answered under the operands' refusal is the definition's value. Assumes nothing.
 use borrow.Author.Needs.{needs}
+use Rattle.s1.specs.Answers.{isValid}
 use Rattle.s1.proofs.interval.Interval.is_valid.Statement.{statement}
 use Rattle.s1.proofs.interval.Interval.is_valid.Tie as tie
 
-read-one-requires : tie.Need-read-one-requires
-read-one-requires c κs = search needs
-
-accepted-requires : tie.Need-accepted-requires
-accepted-requires c κs = search needs
-
-refused-requires : tie.Need-refused-requires
-refused-requires c κs = search needs
-
 returns : tie.Need-returns
 unfolding isValid
-returns c = simp (← c .accepted .ensures, eq-eqb _ _ (c .before .if1 .taken), ← c .before .before .before .read-one .ensures)
-
-returns-2 : tie.Need-returns-2
-unfolding isValid
-returns-2 c = simp (← c .refused .ensures, ne-eqb _ _ (c .before .if1 .left), ← c .before .before .before .read-one .ensures)
+returns c = simp (← c .given .ensures, ← c .before .read-one .ensures)
 
 pub is-valid-spec : {M : Type 1} → statement M
-is-valid-spec =
-    tie.close (tie.spec read-one-requires accepted-requires refused-requires returns returns-2)
+is-valid-spec = tie.close (tie.spec (λ c κs. search needs) (λ c κs. search needs) returns)

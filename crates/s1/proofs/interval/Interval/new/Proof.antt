@@ -5,27 +5,17 @@ use borrow.Author.Needs.{needs}
 use Rattle.s1.proofs.interval.Interval.new.Statement.{statement}
 use Rattle.s1.proofs.interval.Interval.new.Tie as tie
 
-read-ends-requires : tie.Need-read-ends-requires
-read-ends-requires c κs = search needs
-
-new-requires : tie.Need-new-requires
-new-requires c κs = search needs
-
-accepted-requires : tie.Need-accepted-requires
-accepted-requires c κs = search needs
-
-refused-requires : tie.Need-refused-requires
-refused-requires c κs = search needs
-
 returns : tie.Need-returns
 unfolding «new»
-returns c = simp (← c .accepted .ensures, ← c .before .new .ensures, eq-eqb _ _ (c .before .before .before .if1 .taken), ← c .before .before .before .before .before .read-ends .ensures)
+returns c =
+    let at-new = c .before in
+    let at-if1 = at-new .before .before in
+    let at-read-ends = at-if1 .before .before in
+    simp (← c .accepted .ensures, ← at-new .new .ensures, eq-eqb _ _ (at-if1 .if1 .taken), ← at-read-ends .read-ends .ensures)
 
 returns-2 : tie.Need-returns-2
 unfolding «new»
 returns-2 c = simp (← c .refused .ensures, ne-eqb _ _ (c .before .if1 .left), ← c .before .before .before .read-ends .ensures)
 
 pub new-spec : {M : Type 1} → statement M
-new-spec =
-    tie.close
-    (tie.spec read-ends-requires new-requires accepted-requires refused-requires returns returns-2)
+new-spec = tie.close (tie.spec (λ c κs. search needs) (λ c κs. search needs) (λ c κs. search needs) returns (λ c κs. search needs) returns-2)

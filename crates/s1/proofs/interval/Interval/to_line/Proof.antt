@@ -5,9 +5,6 @@ use borrow.Author.Needs.{needs}
 use Rattle.s1.proofs.interval.Interval.to_line.Statement.{statement}
 use Rattle.s1.proofs.interval.Interval.to_line.Tie as tie
 
-read-one-requires : tie.Need-read-one-requires
-read-one-requires c κs = search needs
-
 returns : tie.Need-returns
 unfolding toLine
 returns c = simp (eq-eqb _ _ (c .before .if1 .taken), ← c .before .before .before .read-one .ensures)
@@ -17,4 +14,4 @@ unfolding toLine
 returns-2 c = simp (ne-eqb _ _ (c .if1 .left), ← c .before .before .read-one .ensures)
 
 pub to-line-spec : {M : Type 1} → statement M
-to-line-spec = tie.close (tie.spec read-one-requires returns returns-2)
+to-line-spec = tie.close (tie.spec (λ c κs. search needs) returns returns-2)

@@ -1,45 +1,20 @@
 -- `s2::rect::Rect::approx_eq_by`: at each return the answer is the definition's, under the tests that led there. Assumes nothing.
 use Rattle.s2.specs.Answers.{approxEqBy}
 use borrow.Author.Tests.{eq-eqb, ne-eqb}
-use borrow.Author.Needs.{needs}
 use Rattle.s2.proofs.rect.Rect.approx_eq_by.Statement.{statement}
 use Rattle.s2.proofs.rect.Rect.approx_eq_by.Tie as tie
 
-read-two-requires : tie.Need-read-two-requires
-read-two-requires c κs = search needs
-
-read-margins-requires : tie.Need-read-margins-requires
-read-margins-requires c κs = search needs
-
-first-refusal-requires : tie.Need-first-refusal-requires
-first-refusal-requires c κs = search needs
-
-approx-eq-by-requires : tie.Need-approx-eq-by-requires
-approx-eq-by-requires c κs = search needs
-
-accepted-requires : tie.Need-accepted-requires
-accepted-requires c κs = search needs
-
-refused-requires : tie.Need-refused-requires
-refused-requires c κs = search needs
-
 returns : tie.Need-returns
 unfolding approxEqBy
-returns c = simp (← c .accepted .ensures, ← c .before .approx-eq-by .ensures, eq-eqb _ _ (c .before .before .if1 .taken), ← c .before .before .before .first-refusal .ensures, ← c .before .before .before .before .read-margins .ensures, ← c .before .before .before .before .before .read-two .ensures)
+returns c =
+    let at-test = c .before .before in
+    simp (← c .accepted .ensures, ← c .before .approx-eq-by .ensures, eq-eqb _ _ (at-test .if1 .taken), ← at-test .before .first-refusal .ensures, ← at-test .before .before .read-margins .ensures, ← at-test .before .before .before .read-two .ensures)
 
 returns-2 : tie.Need-returns-2
 unfolding approxEqBy
-returns-2 c = simp (← c .refused .ensures, ne-eqb _ _ (c .before .if1 .left), ← c .before .before .first-refusal .ensures, ← c .before .before .before .read-margins .ensures, ← c .before .before .before .before .read-two .ensures)
+returns-2 c =
+    let at-test = c .before in
+    simp (← c .refused .ensures, ne-eqb _ _ (at-test .if1 .left), ← at-test .before .first-refusal .ensures, ← at-test .before .before .read-margins .ensures, ← at-test .before .before .before .read-two .ensures)
 
 pub approx-eq-by-spec : {M : Type 1} → statement M
-approx-eq-by-spec =
-    tie.close
-    (tie.spec
-    read-two-requires
-    read-margins-requires
-    first-refusal-requires
-    approx-eq-by-requires
-    accepted-requires
-    refused-requires
-    returns
-    returns-2)
+approx-eq-by-spec = tie.close (tie.spec (λ c κs. tt) (λ c κs. tt) (λ c κs. tt) (λ c κs. tt) (λ c κs. tt) (λ c κs. tt) returns returns-2)

@@ -1,37 +1,11 @@
--- `s2::rect::Rect::intersects`: at each return the answer is the definition's, under the tests that led there. Assumes nothing.
+-- `s2::rect::Rect::intersects`: what it hands on is the definition's, by what each call says. Assumes nothing.
 use Rattle.s2.specs.Answers.{intersects}
-use borrow.Author.Tests.{eq-eqb, ne-eqb}
-use borrow.Author.Needs.{needs}
 use Rattle.s2.proofs.rect.Rect.intersects.Statement.{statement}
 use Rattle.s2.proofs.rect.Rect.intersects.Tie as tie
 
-read-two-requires : tie.Need-read-two-requires
-read-two-requires c κs = search needs
-
-intersects-requires : tie.Need-intersects-requires
-intersects-requires c κs = search needs
-
-accepted-requires : tie.Need-accepted-requires
-accepted-requires c κs = search needs
-
-refused-requires : tie.Need-refused-requires
-refused-requires c κs = search needs
-
 returns : tie.Need-returns
 unfolding intersects
-returns c = simp (← c .accepted .ensures, ← c .before .intersects .ensures, eq-eqb _ _ (c .before .before .if1 .taken), ← c .before .before .before .before .read-two .ensures)
-
-returns-2 : tie.Need-returns-2
-unfolding intersects
-returns-2 c = simp (← c .refused .ensures, ne-eqb _ _ (c .before .if1 .left), ← c .before .before .before .read-two .ensures)
+returns c = simp (← c .given .ensures, ← c .before .intersects .ensures, ← c .before .before .read-two .ensures)
 
 pub intersects-spec : {M : Type 1} → statement M
-intersects-spec =
-    tie.close
-    (tie.spec
-    read-two-requires
-    intersects-requires
-    accepted-requires
-    refused-requires
-    returns
-    returns-2)
+intersects-spec = tie.close (tie.spec (λ c κs. tt) (λ c κs. tt) (λ c κs. tt) returns)

@@ -1,31 +1,20 @@
 -- `s2::rect::Rect::size`: at each return the answer is the definition's, under the tests that led there. Assumes nothing.
 use Rattle.s2.specs.Answers.{size}
 use borrow.Author.Tests.{eq-eqb, ne-eqb}
-use borrow.Author.Needs.{needs}
 use Rattle.s2.proofs.rect.Rect.size.Statement.{statement}
 use Rattle.s2.proofs.rect.Rect.size.Tie as tie
 
-read-one-requires : tie.Need-read-one-requires
-read-one-requires c κs = search needs
-
-size-requires : tie.Need-size-requires
-size-requires c κs = search needs
-
-accepted-requires : tie.Need-accepted-requires
-accepted-requires c κs = search needs
-
-refused-requires : tie.Need-refused-requires
-refused-requires c κs = search needs
-
 returns : tie.Need-returns
 unfolding size
-returns c = simp (← c .accepted .ensures, ← c .before .size .ensures, eq-eqb _ _ (c .before .before .if1 .taken), ← c .before .before .before .before .read-one .ensures)
+returns c =
+    let at-test = c .before .before in
+    simp (← c .accepted .ensures, ← c .before .size .ensures, eq-eqb _ _ (at-test .if1 .taken), ← at-test .before .before .read-one .ensures)
 
 returns-2 : tie.Need-returns-2
 unfolding size
-returns-2 c = simp (← c .refused .ensures, ne-eqb _ _ (c .before .if1 .left), ← c .before .before .before .read-one .ensures)
+returns-2 c =
+    let at-test = c .before in
+    simp (← c .refused .ensures, ne-eqb _ _ (at-test .if1 .left), ← at-test .before .before .read-one .ensures)
 
 pub size-spec : {M : Type 1} → statement M
-size-spec =
-    tie.close
-    (tie.spec read-one-requires size-requires accepted-requires refused-requires returns returns-2)
+size-spec = tie.close (tie.spec (λ c κs. tt) (λ c κs. tt) (λ c κs. tt) (λ c κs. tt) returns returns-2)

@@ -1,0 +1,13 @@
+pub mod Tests
+pub mod Orders
+pub mod Pieces
+pub mod Clipping
+pub mod Aligned
+pub mod Unique
+pub mod Insertion
+pub mod Turns
+pub mod Fronts
+pub mod Lasts
+pub mod Permutations
+pub mod Rising
+pub mod Laws

@@ -1,0 +1,66 @@
+-- What the library promises C beyond the operations beneath, each promise with all that it needs in its own signature. Assumes nothing.
+use mathlib.Core.Path.{_≡_, refl, sym, ap, _∙_}
+use mathlib.Core.Bool.{Bool, true, false}
+use mathlib.Core.List.{List, [], _∷_, _++_}
+use Prim.Native.Nat.{ℕ, _-_}
+use native.Mathlib.Omega.{arith}
+use borrow.Author.Tests.{ne-eqb}
+use lib.ListN.{length}
+use lib.Ieee.{Float}
+use Rattle.consts.specs.Refusal.{number, accepted, noRoom, badBox}
+use Rattle.text.specs.declared.text.Written.{Written}
+use Rattle.bbox.specs.declared.bounds.Bounds.{Bounds}
+use Rattle.bbox.specs.Bounds.{givable}
+use Rattle.bbox.specs.Text.{textOf, wroteBox, leftBox}
+use Rattle.bbox.proofs.Answers.{enough}
+use Rattle.s2.specs.declared.latlng.LatLng.{LatLng}
+use Rattle.s2.specs.declared.rect.Answer.{Answer}
+use Rattle.s2.specs.Answers.{add}
+use Rattle.lists.specs.Rects.{numbersOf}
+use Rattle.growth.specs.Growth.{grow}
+use Rattle.growth.specs.Scan.{enlarge, enlargeAll}
+use Rattle.capi.specs.declared.lent.CRefusal.{CRefusal}
+use Rattle.capi.specs.Records.{zeros, boxText}
+use Rattle.capi.specs.Boxes.{boxOf, boxLeft, Stored}
+use Rattle.capi.proofs.Laws.{keeps, left-given}
+
+-- ---- the running box of the scan worker: l before the call, l' after it, four numbers by its type; n is what is answered
+-- a refusal leaves every number, whatever growth answered
+pub refused-stays : (l : List Float) (a : Answer) (n : CRefusal) (l' : List Float) → Stored l a n l' → (n .refusal ≡ number accepted → ⊥) → l' ≡ l
+unfolding boxLeft
+refused-stays l a n l' s h = s .leaves ∙ simp (ne-eqb (a .refusal) 0 (λ e. h (s .answers ∙ e)))
+
+-- a point leaves the box that the scan worker of the crate growth leaves, and answers its number; so does a list
+pub as-enlarged : (l : List Float) (p : LatLng) (n : CRefusal) (l' : List Float) → length l ≡ 4 → Stored l (add (boxOf l) p) n l'
+    → (n .refusal ≡ enlarge (boxOf l) p .refusal) × (l' ≡ numbersOf (enlarge (boxOf l) p .value ∷ []))
+unfolding enlarge
+as-enlarged l p n l' h s = (s .answers, s .leaves ∙ keeps l (add (boxOf l) p) h)
+
+pub as-enlarged-all : (l ps : List Float) (n : CRefusal) (l' : List Float) → length l ≡ 4 → Stored l (grow (boxOf l) ps) n l'
+    → (n .refusal ≡ enlargeAll (boxOf l) ps .refusal) × (l' ≡ numbersOf (enlargeAll (boxOf l) ps .value ∷ []))
+unfolding enlargeAll
+as-enlarged-all l ps n l' h s = (s .answers, s .leaves ∙ keeps l (grow (boxOf l) ps) h)
+
+-- ---- the text of a box
+-- a box that reading can give: its text and the text's length, then zeros, one at least
+pub text-given : (b : Bounds) → givable b ≡ true
+    → boxText b ≡ record { refusal = number accepted; length = length (textOf b); text = textOf b ++ (0 ∷ zeros (51 - length (textOf b))) }
+text-given b g = simp (enough b 52 g (omega arith), left-given b g)
+
+-- any other: 9, and nothing but zeros
+pub text-refused : (b : Bounds) → givable b ≡ false → boxText b ≡ record { refusal = number badBox; length = 0; text = zeros 52 }
+unfolding wroteBox leftBox
+text-refused b g = simp g
+
+-- there is always room: 6 is never answered
+pub always-room : (b : Bounds) → boxText b .refusal ≡ number noRoom → ⊥
+unfolding wroteBox
+always-room b h = by-test (givable b) refl
+  where
+    by-test : (t : Bool) → givable b ≡ t → ⊥
+    by-test true g =
+        let k : _≡_ {A = ℕ} 0 6 = sym (ap (λ (w : Written). w .refusal) (enough b 52 g (omega arith))) ∙ h in
+        omega arith
+    by-test false g =
+        let k : _≡_ {A = ℕ} 9 6 = simp g at h in
+        omega arith

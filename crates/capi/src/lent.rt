@@ -1,0 +1,82 @@
+// Lent lists and the lent box: the common region of a list of rectangles, growth by a list of points, and
+// the scan worker. A list is a pointer and a count of numbers: four a rectangle, lat.lo, lat.hi, lng.lo,
+// lng.hi; two a point, latitude, longitude.
+//
+// The running box is lent as its four numbers in the same order, which is what a rectangle is in memory.
+// The worker takes them up, has the rectangle grown by value, and stores the four numbers of the answer
+// only under 0.
+use consts::ACCEPTED;
+use growth::grow;
+use r1::interval::Interval as Line;
+use region::Pieces;
+use region::common_region;
+use s1::interval::Interval as Circle;
+use s2::latlng::LatLng;
+use s2::rect::Answer;
+use s2::rect::Rect;
+ghost use mathlib.Core.Path.{_≡_};
+ghost use Rattle.s2.specs.Answers.{add};
+ghost use Rattle.region.specs.Answers.{Promised};
+ghost use Rattle.growth.specs.Growth.{grow};
+ghost use Rattle.capi.specs.Boxes.{boxOf, Stored};
+
+// The refusal number alone: the worker's answer lies in the box. In a record, as every answer of the
+// library is.
+#[repr(C)]
+pub struct CRefusal {
+    pub refusal: u8,
+}
+
+// The common region of the rectangles in `list`, to the start of `out`.
+#[no_mangle]
+pub extern "C" fn sjurnabel_common_region(list: &[f64], out: &mut [f64]) -> Pieces
+    ensures { λ r. ⌜ Promised (now (list .entry)) (now (out .entry)) r (now (out .exit)) ⌝ }
+{
+    common_region(list, out)
+}
+
+// The rectangle grown by all the points of the list.
+#[no_mangle]
+pub extern "C" fn sjurnabel_grow(a: Rect, points: &[f64]) -> Answer
+    ensures { λ r. ⌜ r ≡ grow a (now (points .entry)) ⌝ }
+{
+    grow(a, points)
+}
+
+// The rectangle of four numbers.
+fn box_of(b: &[f64; 4]) -> Rect
+    ensures { λ r. ⌜ r ≡ boxOf (now (b .entry)) ⌝ }
+{
+    let lat = Line { lo: b[0], hi: b[1] };
+    let lng = Circle { lo: b[2], hi: b[3] };
+    Rect { lat, lng }
+}
+
+// What growth answers goes into the box, under 0 alone.
+fn keep(b: &mut [f64; 4], a: Answer) -> CRefusal
+    ensures { λ n. ⌜ Stored (now (b .entry)) a n (now (b .exit)) ⌝ }
+{
+    if a.refusal == ACCEPTED {
+        let r = a.value;
+        *b = [r.lat.lo, r.lat.hi, r.lng.lo, r.lng.hi];
+    }
+    CRefusal { refusal: a.refusal }
+}
+
+// Enlarges the running box by a point.
+#[no_mangle]
+pub extern "C" fn sjurnabel_scan_point(b: &mut [f64; 4], p: LatLng) -> CRefusal
+    ensures { λ n. ⌜ Stored (now (b .entry)) (add (boxOf (now (b .entry))) p) n (now (b .exit)) ⌝ }
+{
+    let a = box_of(b).add(p);
+    keep(b, a)
+}
+
+// Enlarges the running box by a list of points: one bad point leaves the box.
+#[no_mangle]
+pub extern "C" fn sjurnabel_scan_list(b: &mut [f64; 4], points: &[f64]) -> CRefusal
+    ensures { λ n. ⌜ Stored (now (b .entry)) (grow (boxOf (now (b .entry))) (now (points .entry))) n (now (b .exit)) ⌝ }
+{
+    let a = grow(box_of(b), points);
+    keep(b, a)
+}

@@ -1,0 +1,127 @@
+-- What documents 01 and 02 promise of lists, in their order and words, each as one theorem with all that it asks in its own signature. Each is a law of the modules
+-- beside this one. Assumes nothing.
+use mathlib.Core.Path.{_≡_, refl, ap}
+use mathlib.Core.Bool.{Bool, true, false, cond}
+use mathlib.Core.List.{List, [], _∷_, _++_}
+use mathlib.Core.Logic.{_⊎_, _↔_}
+use Prim.Native.Nat.{ℕ, _+_, _*_, _%_, _≤_, _<_}
+use native.Mathlib.Omega.{arith}
+use lib.ListN.{length, take, drop, getD}
+use lib.Ieee.{Float, nan}
+use Rattle.consts.specs.Refusal.{number, accepted, outOfReach, notValid, badPoint}
+use Rattle.r1.specs.Line as line
+use Rattle.s1.specs.Circle as circle
+use Rattle.s2.specs.declared.latlng.LatLng.{LatLng}
+use Rattle.s2.specs.declared.rect.Rect.{Rect}
+use Rattle.s2.specs.Zone.{at, box, isValid, isLatLng}
+use Rattle.s2.specs.Reading.{rectInReach, readOne, readPoint}
+use Rattle.s2.specs.Places.{Valid, ValidPoint}
+use Rattle.s2.proofs.Readings.{one-out, one-not-valid, point-bad}
+use Rattle.lists.specs.declared.lists.First.{First}
+use Rattle.lists.specs.Lists.{All, whole}
+use Rattle.lists.specs.Rects.{rectsOf, numbersOf, putRect, asReadAll}
+use Rattle.lists.specs.Points.{pointsOf, latLngsOf}
+use Rattle.lists.specs.Refused.{ofRect, ofPoint, firstOf, firstRefused, firstBad}
+use Rattle.lists.specs.Inputs.{Form, Items, Fault, inputOf}
+use Rattle.lists.proofs.Lengths.{not-whole-when}
+use Rattle.lists.proofs.RectLists as rects
+use Rattle.lists.proofs.PointLists as points
+use Rattle.lists.proofs.Refused.{IsFirst, none-told, none-when, first-told, first-when}
+use Rattle.lists.proofs.Doubles.{Doubles, DoublePoint, rects-accepted, points-accepted}
+use Rattle.lists.proofs.Inputs as inputs
+
+-- ---- "Negative zero coming in is read as zero": what has been read has none, and is read as it stands
+pub read-once : (rs : List Rect) → asReadAll (asReadAll rs) ≡ asReadAll rs
+read-once rs = rects.read-again (asReadAll rs) (rects.read-all rs)
+
+-- ---- "Point lists hold latitude then longitude"
+pub point-lists : (l : List Float) (k : ℕ) (p : LatLng) → k < length (pointsOf l) → getD (pointsOf l) k p ≡ at (getD l (2 * k) nan) (getD l (2 * k + 1) nan)
+point-lists l k p h = points.point-entry l k p h
+
+-- either way undoes the other
+pub points-there-and-back : (ps : List LatLng) → pointsOf (latLngsOf ps) ≡ ps
+points-there-and-back ps = points.points-latlngs ps
+
+pub points-back-and-there : (l : List Float) → length l % 2 ≡ 0 → latLngsOf (pointsOf l) ≡ l
+points-back-and-there l h = points.latlngs-points l h
+
+-- ---- "rectangle lists hold lat.lo, lat.hi, lng.lo, lng.hi"
+pub rectangle-lists : (l : List Float) (k : ℕ) (r : Rect) → k < length (rectsOf l)
+    → getD (rectsOf l) k r ≡ box (line.ends (getD l (4 * k) nan) (getD l (4 * k + 1) nan)) (circle.ends (getD l (4 * k + 2) nan) (getD l (4 * k + 3) nan))
+rectangle-lists l k r h = rects.rect-entry l k r h
+
+pub rectangles-there-and-back : (rs : List Rect) → rectsOf (numbersOf rs) ≡ rs
+rectangles-there-and-back rs = rects.rects-numbers rs
+
+pub rectangles-back-and-there : (l : List Float) → length l % 4 ≡ 0 → numbersOf (rectsOf l) ≡ l
+rectangles-back-and-there l h = rects.numbers-rects l h
+
+-- what is put into a list stands there, and all else stays; where there is no room nothing is put
+pub put-there : (i : ℕ) (r : Rect) (l : List Float) → i + 4 ≤ length l → putRect i r l ≡ take i l ++ numbersOf (r ∷ []) ++ drop (i + 4) l
+put-there i r l h = rects.put-is i r l h
+
+pub put-nothing : (i : ℕ) (r : Rect) (l : List Float) → length l < i + 4 → putRect i r l ≡ l
+put-nothing i r l h = rects.no-room i r l h
+
+-- ---- the numbers, "given exactly when"
+-- 1, "a rectangle has a number out of reach", and 2, "numbers in reach, but not valid": so 1 comes before 2
+numbers : (s t : Bool) → (_≡_ {A = ℕ} (cond s (cond t 0 2) 1) 1 → s ≡ false) × (_≡_ {A = ℕ} (cond s (cond t 0 2) 1) 2 → (s ≡ true) × (t ≡ false))
+numbers true true = ((λ e. absurd (omega (arith, e))), (λ e. absurd (omega (arith, e))))
+numbers true false = ((λ e. absurd (omega (arith, e))), (λ e. (refl, refl)))
+numbers false t = ((λ e. refl), (λ e. absurd (omega (arith, e))))
+
+pub out-of-reach : (r : Rect) → (ofRect r ≡ number outOfReach) ↔ (rectInReach r ≡ false)
+unfolding readOne
+out-of-reach r = (numbers (rectInReach r) (isValid r) .0, one-out r)
+
+pub not-valid : (r : Rect) → (ofRect r ≡ number notValid) ↔ ((rectInReach r ≡ true) × (isValid r ≡ false))
+unfolding readOne
+not-valid r = (numbers (rectInReach r) (isValid r) .1, λ h. one-not-valid r (h .0) (h .1))
+
+-- 3, "a point is no valid latlng"
+pub no-latlng : (p : LatLng) → (ofPoint p ≡ number badPoint) ↔ (isLatLng p ≡ false)
+unfolding readPoint
+no-latlng p = (go (isLatLng p), point-bad p)
+  where
+    go : (t : Bool) → _≡_ {A = ℕ} (cond t 0 3) 3 → t ≡ false
+    go true e = absurd (omega (arith, e))
+    go false e = refl
+
+-- 5, "an input list's length is not a multiple of the record, or over 512 rectangles or 4,096 points"
+pub rectangle-list-refused : (l : List Float) → (whole 4 512 l ≡ false) ↔ ((length l % 4 ≡ 0 → ⊥) ⊎ (4 * 512 < length l))
+rectangle-list-refused l = not-whole-when 4 512 (length l)
+
+pub point-list-refused : (l : List Float) → (whole 2 4096 l ≡ false) ↔ ((length l % 2 ≡ 0 → ⊥) ⊎ (2 * 4096 < length l))
+point-list-refused l = not-whole-when 2 4096 (length l)
+
+-- and so for every record and every limit
+pub list-refused : {A : Type 0} (size limit : ℕ) (l : List A) → (whole size limit l ≡ false) ↔ ((length l % size ≡ 0 → ⊥) ⊎ (size * limit < length l))
+list-refused size limit l = not-whole-when size limit (length l)
+
+-- 0: no entry is refused exactly when each is valid
+pub rectangles-accepted : (rs : List Rect) → All Doubles rs → (firstRefused rs ≡ number accepted) ↔ All Valid rs
+rectangles-accepted rs d = rects-accepted rs d
+
+pub points-all-accepted : (ps : List LatLng) → All DoublePoint ps → (firstBad ps ≡ number accepted) ↔ All ValidPoint ps
+points-all-accepted ps d = points-accepted ps d
+
+-- ---- "Order: .. lists from their first entry": the number that is told is that of the first entry that is refused
+-- "(document 02) For lists, 1 and these also report the entry's number from zero": and the entry is that one. All before it are accepted
+pub first-refusal : {A : Type 0} (why : A → ℕ) (l : List A) → (firstOf why l .refusal ≡ 0 → ⊥) → IsFirst why l (firstOf why l .refusal) (firstOf why l .entry)
+first-refusal why l h = first-when why l h
+
+-- there is only one such entry
+pub one-first : {A : Type 0} (why : A → ℕ) (l : List A) (n k : ℕ) → IsFirst why l n k → firstOf why l ≡ record { refusal = n; entry = k }
+one-first why l n k f = first-told why l n k f
+
+-- the entry beside 0 is 0
+pub none-beside-none : {A : Type 0} (why : A → ℕ) (l : List A) → firstOf why l .refusal ≡ 0 → firstOf why l .entry ≡ 0
+none-beside-none why l h = ap (λ (f : First). f .entry) (none-told why l (none-when why l .0 h))
+
+-- ---- "The first fault in the stream decides", in every form of input
+pub first-fault-decides : {B A : Type 0} (f : Form B A) (s : List B) (n k : ℕ) → inputOf f s ≡ Fault n k → inputs.FirstFault f (f .limit) s n k
+first-fault-decides f s n k e = inputs.first-fault f s n k e
+
+-- and where there is none every item is told
+pub every-item : {B A : Type 0} (f : Form B A) (s : List B) (l : List A) → inputOf f s ≡ Items l → inputs.AllItems f (f .limit) s l
+every-item f s l e = inputs.all-items f s l e

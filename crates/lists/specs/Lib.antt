@@ -1,0 +1,5 @@
+pub mod Lists
+pub mod Rects
+pub mod Points
+pub mod Refused
+pub mod Inputs

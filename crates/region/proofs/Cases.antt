@@ -1,0 +1,90 @@
+-- The answer and what is left in the output, by what was found in the list. Assumes nothing.
+use mathlib.Core.Path.{_≡_, refl, sym, ap, _∙_}
+use mathlib.Core.Bool.{Bool, true, false, cond, _&&_, and-false}
+use mathlib.Core.List.{List, [], _∷_, _++_}
+use Prim.Native.Nat.{ℕ, suc, _*_, _%_, _≤_, _<_}
+use native.Mathlib.Omega.{arith}
+use borrow.Author.Tests.{le-leb, lt-leb, leb-true, leb-false, eq-eqb, ne-eqb}
+use lib.ListN.{length, drop, getD}
+use lib.Dec.{T, leb, eqb}
+use lib.Ieee.{Float, nan, binary64, fits}
+use Rattle.consts.specs.Refusal.{number, accepted, badList, noRoom, firstRefusal}
+use Rattle.r1.specs.declared.interval.Interval.{Interval as Line}
+use Rattle.s1.specs.declared.interval.Interval.{Interval}
+use Rattle.lists.specs.Rects.{rectsOf}
+use Rattle.lists.specs.Lists.{whole}
+use Rattle.lists.specs.Refused.{firstRefused}
+use Rattle.lists.proofs.Lengths as lengths
+use Rattle.lists.proofs.Doubles.{all-valid}
+use Rattle.region.specs.declared.region.Pieces.{Pieces}
+use Rattle.region.specs.Region.{across}
+use Rattle.region.specs.Answers.{piecesOf, refusalOf, answer, left, Promised}
+use Rattle.region.specs.Inside.{IsWritten}
+use Rattle.region.proofs.Listed.{listed-is}
+
+abbrev pub pieces : ℕ → ℕ → Pieces
+pieces n k = record { refusal = n; count = k }
+
+-- ---- whole rectangles, at most 512
+module _ (l : List Float) where
+  pub odd : (length l % 4 ≡ 0 → ⊥) → whole 4 512 l ≡ false
+  odd h = lengths.odd 4 512 (length l) h
+
+  pub long : 2048 < length l → whole 4 512 l ≡ false
+  long k = lengths.long 4 512 (length l) k
+
+  pub good : length l % 4 ≡ 0 → length l ≤ 2048 → whole 4 512 l ≡ true
+  good h k = lengths.good 4 512 (length l) h k
+
+-- ---- the refusal
+module _ (l : List Float) (room : ℕ) where
+  pub bad-list : whole 4 512 l ≡ false → refusalOf l room ≡ number badList
+  unfolding refusalOf
+  bad-list w = simp w
+
+  module _ (w : whole 4 512 l ≡ true) where
+    pub bad-entry : (n : ℕ) → n ≡ firstRefused (rectsOf l) → (n ≡ 0 → ⊥) → refusalOf l room ≡ n
+    unfolding refusalOf firstRefusal
+    bad-entry n e h = simp (w, sym e, ne-eqb n 0 h)
+
+    module _ (a : firstRefused (rectsOf l) ≡ 0) where
+      pub no-room : (n : ℕ) → length (piecesOf l) ≡ n → room < 4 * n → refusalOf l room ≡ number noRoom
+      unfolding refusalOf firstRefusal
+      no-room n e h = simp (w, a, e, lt-leb _ _ h)
+
+      pub room-enough : (n : ℕ) → length (piecesOf l) ≡ n → 4 * n ≤ room → refusalOf l room ≡ number accepted
+      unfolding refusalOf firstRefusal
+      room-enough n e h = simp (w, a, e, le-leb _ _ h)
+
+-- ---- the promise
+module _ (l out : List Float) where
+  pub refused : (n : ℕ) → refusalOf l (length out) ≡ n → (n ≡ 0 → ⊥) → Promised l out (pieces n 0) out
+  unfolding answer left
+  refused n e h =
+      let z = ne-eqb n 0 h in
+      record { answers = simp (e, z); leaves = simp (e, z); lists = λ t. absurd (h t) }
+
+  -- where the pieces that are due were written, or did not fit
+  pub listed : ((i : ℕ) → T (fits binary64 (getD l i nan))) → whole 4 512 l ≡ true → firstRefused (rectsOf l) ≡ 0 → (r : Pieces) (last : List Float) → IsWritten (piecesOf l) out r last
+      → Promised l out r last
+  unfolding answer left
+  listed d w a r last p = go (leb (4 * length (piecesOf l)) (length out)) refl
+    where
+      go : (t : Bool) → leb (4 * length (piecesOf l)) (length out) ≡ t → Promised l out r last
+      go true h =
+          let k = leb-true (4 * length (piecesOf l)) (length out) h in
+          let z : refusalOf l (length out) ≡ 0 = room-enough l (length out) w a (length (piecesOf l)) refl k in
+          record { answers = p .fit k .0 ∙ simp z; leaves = p .fit k .1 ∙ simp z; lists = λ t. unfold piecesOf in (listed-is (rectsOf l) (all-valid l d a)) }
+      go false h =
+          let k = leb-false (4 * length (piecesOf l)) (length out) h in
+          let z : refusalOf l (length out) ≡ 6 = no-room l (length out) w a (length (piecesOf l)) refl k in
+          record { answers = p .none k .0 ∙ simp z; leaves = p .none k .1 ∙ simp z; lists = λ t. absurd (six (sym (ap (λ (x : Pieces). x .refusal) (p .none k .0)) ∙ t)) }
+        where
+          six : _≡_ {A = ℕ} 6 0 → ⊥
+          six e = omega (arith, e)
+
+-- ---- as many rectangles as pieces
+pub length-across : (b : Line) (l : List Interval) → length (across b l) ≡ length l
+unfolding across
+length-across b [] = refl
+length-across b (x ∷ l) = ap suc (length-across b l)

@@ -1,0 +1,169 @@
+//! The arms of growth by a list: those of the crate's growth by one point, reached at any accepted point
+//! of the list, and what a list can have that one point cannot.
+
+use super::question::{by_one, one_point, Question, Way};
+use crate::base::answer::{ACCEPTED, BAD_LENGTH, BAD_POINT, NOT_VALID, OUT_OF_REACH};
+use crate::base::roles::{is_negative_zero, Point, Rect, Role, EMPTY};
+use crate::kind::arms::{hits, named, Row};
+use crate::kind::{Arm, Kind, LONG_LIST, SHORT};
+
+/// What happened to a list: the answer, and each point with the box before it and its refusal number.
+struct Seen {
+    asked: Question,
+    refusal: u8,
+    left: Rect,
+    steps: Vec<Step>,
+}
+
+struct Step {
+    before: Rect,
+    point: Point,
+    refusal: u8,
+}
+
+/// Wanted of both questions: the length goes before the start, and the start before a bad point.
+const OF_BOTH: &[Row<Seen>] = &[
+    ("an empty list", |seen| seen.refusal == ACCEPTED && seen.asked.numbers.is_empty()),
+    ("an empty list, start with -0", |seen| {
+        seen.refusal == ACCEPTED && seen.asked.numbers.is_empty() && has_negative_zero(&seen.asked.start)
+    }),
+    ("an empty list, start out of reach", |seen| {
+        seen.refusal == OUT_OF_REACH && seen.asked.numbers.is_empty()
+    }),
+    ("an empty list, start not valid", |seen| seen.refusal == NOT_VALID && seen.asked.numbers.is_empty()),
+    ("one point", |seen| seen.refusal == ACCEPTED && seen.steps.len() == 1),
+    ("the start is empty, but not the standard one", |seen| {
+        let [lo, hi, ..] = seen.asked.start;
+        seen.refusal == ACCEPTED && lo > hi && [lo, hi] != EMPTY[..2] && !seen.steps.is_empty()
+    }),
+    ("two points or more enlarge the box", |seen| seen.refusal == ACCEPTED && seen.enlarged() > 1),
+    ("a point carries the box over the seam", |seen| {
+        let inverted = |rect: &Rect| rect[2] > rect[3] && rect[0] <= rect[1];
+        let plain = |rect: &Rect| rect[2] <= rect[3];
+        seen.refusal == ACCEPTED && seen.boxes().windows(2).any(|two| plain(&two[0]) && inverted(&two[1]))
+    }),
+    ("the order of the points matters", |seen| {
+        seen.refusal == ACCEPTED && backwards(&seen.asked) != seen.left
+    }),
+    ("length refused, start not valid", |seen| seen.refusal == BAD_LENGTH && !seen.valid_start()),
+    ("length refused, start with -0", |seen| {
+        seen.refusal == BAD_LENGTH && has_negative_zero(&seen.asked.start)
+    }),
+    ("point refused, start with -0", |seen| {
+        seen.refusal == BAD_POINT && has_negative_zero(&seen.asked.start)
+    }),
+    ("the first point alone is refused", |seen| seen.refused_alone(0)),
+    ("the last point alone is refused", |seen| seen.refused_alone(seen.steps.len().wrapping_sub(1))),
+    ("a point in the middle is refused", |seen| {
+        seen.refusal == BAD_POINT
+            && seen.steps.len() > 2
+            && seen.steps[1..seen.steps.len() - 1].iter().any(|step| step.refusal == BAD_POINT)
+    }),
+    ("start refused, a point is bad too", |seen| {
+        matches!(seen.refusal, OUT_OF_REACH | NOT_VALID) && seen.any_bad_point()
+    }),
+    ("length refused, a point is bad too", |seen| seen.refusal == BAD_LENGTH && seen.any_bad_point()),
+];
+
+/// Wanted of the running box: what it stores and what it keeps.
+const OF_SCAN: &[Row<Seen>] = &[
+    ("a point is stored after a refused one", |seen| {
+        let refused = seen.steps.iter().position(|step| step.refusal == BAD_POINT);
+        refused.is_some_and(|at| seen.steps[at..].iter().any(|step| step.refusal == ACCEPTED))
+    }),
+    ("a point is refused after a stored one", |seen| {
+        let stored = seen.steps.iter().position(|step| step.refusal == ACCEPTED);
+        stored.is_some_and(|at| seen.steps[at..].iter().any(|step| step.refusal == BAD_POINT))
+    }),
+    ("nothing is stored, start with -0", |seen| {
+        seen.refusal == BAD_POINT && !seen.any_stored() && has_negative_zero(&seen.asked.start)
+    }),
+];
+
+fn own(way: Way) -> [&'static [Row<Seen>]; 2] {
+    [OF_BOTH, if way == Way::Scan { OF_SCAN } else { &[] }]
+}
+
+/// All arms. Those that are asked of every operation are among the ones of growth by one point.
+pub fn all(way: Way) -> Vec<Arm> {
+    own(way).into_iter().flat_map(named).chain(Kind::arms(one_point())).collect()
+}
+
+/// The arms that a question reaches.
+pub fn reached(asked: &Question) -> Vec<Arm> {
+    let (refusal, left) = asked.left();
+    let seen = Seen { asked: asked.clone(), refusal, left, steps: steps(asked) };
+    let mut hit: Vec<Arm> = own(asked.way).into_iter().flat_map(|rows| hits(rows, &seen)).collect();
+    // A list that is refused whole is not grown by any point.
+    let grows = asked.way == Way::Scan || seen.refusal == ACCEPTED;
+    for step in seen.steps.iter().filter(|step| grows && step.refusal == ACCEPTED) {
+        for arm in one_point().reached(&[&step.before[..], &step.point].concat()) {
+            if !hit.contains(&arm) {
+                hit.push(arm);
+            }
+        }
+    }
+    if asked.numbers.len() / 2 > SHORT {
+        hit.push(LONG_LIST);
+    }
+    hit
+}
+
+/// Each point with the box before it, as the scan worker meets them. None where the length or the start is
+/// refused.
+fn steps(asked: &Question) -> Vec<Step> {
+    let mut steps = Vec::new();
+    let mut before = asked.start;
+    if asked.has_bad_length() || Role::Rect.fault(&before) != ACCEPTED {
+        return steps;
+    }
+    for point in asked.points() {
+        let (refusal, grown) = by_one(before, point);
+        steps.push(Step { before, point, refusal });
+        if refusal == ACCEPTED {
+            before = grown.numbers();
+        }
+    }
+    steps
+}
+
+/// What the same points in the other order leave.
+fn backwards(asked: &Question) -> Rect {
+    let numbers = asked.points().rev().collect::<Vec<_>>().concat();
+    Question { way: asked.way, start: asked.start, numbers }.left().1
+}
+
+fn has_negative_zero(rect: &Rect) -> bool {
+    rect.iter().any(|x| is_negative_zero(*x))
+}
+
+impl Seen {
+    fn valid_start(&self) -> bool {
+        Role::Rect.fault(&self.asked.start) == ACCEPTED
+    }
+
+    fn any_bad_point(&self) -> bool {
+        self.asked.points().any(|point| Role::LatLng.fault(&point) != ACCEPTED)
+    }
+
+    fn any_stored(&self) -> bool {
+        self.steps.iter().any(|step| step.refusal == ACCEPTED)
+    }
+
+    /// The boxes before each point, and the last one.
+    fn boxes(&self) -> Vec<Rect> {
+        self.steps.iter().map(|step| step.before).chain([self.left]).collect()
+    }
+
+    /// How many points change the box.
+    fn enlarged(&self) -> usize {
+        self.boxes().windows(2).filter(|two| two[0] != two[1]).count()
+    }
+
+    /// Whether of several points this one is refused with 3, and no other one.
+    fn refused_alone(&self, at: usize) -> bool {
+        let is_bad = |step: &Step| step.refusal == BAD_POINT;
+        self.steps.len() > 1
+            && self.steps.iter().enumerate().all(|(place, step)| is_bad(step) == (place == at))
+    }
+}

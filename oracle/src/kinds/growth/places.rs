@@ -1,0 +1,80 @@
+//! What document 01 says of growth by a list of points, over places; and how the whole list, the running
+//! box of `scan` and growth by one point agree.
+
+use super::draw;
+use super::question::{by_one, Question, Way};
+use crate::base::answer::{ACCEPTED, BAD_POINT};
+use crate::base::check::{drawn, Check, Statements};
+use crate::base::places::{held, place_of, telling_places};
+use crate::base::roles::{is_negative_zero, rect_is_valid, seam_as_pi, Point, Rect, Role};
+use crate::kind::Asked;
+
+pub const CHECKS: &[Check] = &[("lists of points against places", || {
+    drawn("places of growth", 50_000, |rng, tried| {
+        let drawn = draw::short(rng, Way::Growth);
+        let numbers = drawn.numbers().unwrap_or_default();
+        tried.hold_all(statements(drawn.start, &drawn.numbers), &numbers);
+    })
+})];
+
+/// The refusal number, and the rectangle that is left.
+fn asked(way: Way, start: Rect, list: &[f64]) -> (u8, Rect) {
+    Question { way, start, numbers: list.to_vec() }.left()
+}
+
+fn statements(start: Rect, list: &[f64]) -> Statements {
+    let points: Vec<Point> = list.chunks_exact(2).map(|n| [n[0], n[1]]).collect();
+    match asked(Way::Growth, start, list) {
+        (ACCEPTED, grown) => [over_places(start, &points, grown), in_parts(start, &points, grown)].concat(),
+        (BAD_POINT, left) => {
+            let valid: Vec<Point> =
+                points.into_iter().filter(|p| Role::LatLng.fault(p) == ACCEPTED).collect();
+            let (number, running) = asked(Way::Scan, start, list);
+            let of_valid = asked(Way::Growth, start, &valid.concat()).1;
+            vec![
+                ("a bad point hands back the start's bits", bits(left) == bits(start)),
+                ("a bad point gives the running box its number", number == BAD_POINT),
+                ("the running box grows by the valid points alone", running == of_valid),
+                ("by bad points alone it keeps its bits", !valid.is_empty() || bits(running) == bits(start)),
+            ]
+        }
+        (number, left) => {
+            let (of_scan, running) = asked(Way::Scan, start, list);
+            let alike = of_scan == number && bits(running) == bits(left);
+            vec![("a list or a start is refused alike for the running box", alike)]
+        }
+    }
+}
+
+fn over_places(start: Rect, points: &[Point], grown: Rect) -> Statements {
+    let places = telling_places(&[start, grown]);
+    let lat_known = |x: f64| x == start[0] || x == start[1] || points.iter().any(|p| p[0] == x);
+    let lng_known = |x: f64| x == start[2] || x == start[3] || points.iter().any(|p| seam_as_pi(p[1]) == x);
+    vec![
+        ("growth holds the start", places.iter().all(|at| !held(start, *at) || held(grown, *at))),
+        ("growth holds every point", points.iter().all(|p| held(grown, (p[0], place_of(p[1]))))),
+        ("growth is valid", rect_is_valid(grown)),
+        ("growth's latitudes are known", lat_known(grown[0]) && lat_known(grown[1])),
+        ("growth's longitudes are known", lng_known(grown[2]) && lng_known(grown[3])),
+        ("growth writes no negative zero", !grown.iter().any(|x| is_negative_zero(*x))),
+    ]
+}
+
+/// The list may be cut anywhere, and into its single points.
+fn in_parts(start: Rect, points: &[Point], grown: Rect) -> Statements {
+    let one_more = |before: Rect, p: &Point| by_one(before, *p).1.numbers();
+    let cut_at = |at: usize| {
+        let first = asked(Way::Growth, start, &points[..at].concat()).1;
+        asked(Way::Growth, first, &points[at..].concat()).1
+    };
+    let (number, running) = asked(Way::Scan, start, &points.concat());
+    vec![
+        ("growth is growth by one point after the other", points.iter().fold(start, one_more) == grown),
+        ("growth by a list is growth by its parts", (0..=points.len()).all(|at| cut_at(at) == grown)),
+        ("the running box becomes the same", number == ACCEPTED && bits(running) == bits(grown)),
+    ]
+}
+
+fn bits(rect: Rect) -> [u64; 4] {
+    rect.map(f64::to_bits)
+}

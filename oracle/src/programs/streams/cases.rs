@@ -1,0 +1,224 @@
+//! The cases of the program `common_cases`: streams at the edges of what the program `common` reads. That
+//! program hands each of them to the library function that `common` calls. For each it writes a line
+//! `case LABEL` and then the answer, just as `common` would write it. What it is expected to write is
+//! printed from here: the cases in this order, each with the reference's answer to its bytes. Each answer is
+//! worked by hand too, and `oracle/check` holds the reference to it. The last of them, `record NAME`, are handed to the function that reads one record: what they answer is the rectangle
+//! that is handed out, written as a list of one piece is, or the refusal.
+//!
+//! A rectangle has the latitudes [0, 1] and the longitudes given, and "good" is a record of [-1, 1], unless
+//! something else is said. Numbers of 16 digits are bit patterns. P is first, middle and last, in turn; the
+//! marks, patterns and names follow in the order of their tables below.
+//!
+//! | Label | Stream |
+//! |---|---|
+//! | `empty` | no bytes |
+//! | `records 512` | 512 good records |
+//! | `records 513` | 513 good records |
+//! | `records 513 short` | 512 good records, then the first 33 bytes of a good one |
+//! | `records 513 mark` | 512 good records, then one with the mark 52 30 |
+//! | `records 513 nan` | 512 good records, then one of four NaNs (7FF8000000000000) |
+//! | `tail N`, N from 1 to 33 | a good record, then the first N bytes of a good one |
+//! | `mark B0 B1`, nine marks | a good record, but with these two bytes for its mark |
+//! | `refused 1 at P` | five good records, but the first, third or last has lat.lo 7FF8000000000000 |
+//! | `refused 2 at P` | the same, but that one has the longitudes [4, 0] |
+//! | `refused 7 at P` | the same, but its mark is 52 30 |
+//! | `nan PATTERN`, three patterns | a good record, but lng.lo has this pattern |
+//! | `infinity` | a good record, but lat.lo is 7FF0000000000000 |
+//! | `reach` | a good record, but lat.lo is 5F30000000000000, which is 2^500 |
+//! | `beyond` | a good record, but lat.lo is 5F30000000000001 |
+//! | `zeros` | latitudes [-0, 0] with longitudes [-0, -0] |
+//! | `zeros both` | longitudes [-0, 1], then [0, 1] |
+//! | `latitudes apart` | latitudes [0, 0.25], then [0.5, 1], both with longitudes [-1, 1] |
+//! | `longitudes NAME`, ten names | zones of LONGITUDES; only `empty` has other latitudes, [1, 0] |
+//! | `first fault` | a good record, one with the mark 52 30, one with lat.lo 7FF8000000000000 |
+//! | `first fault again` | the same with the last two changed round |
+//! | `record zeros` | latitudes [-0, 0] with longitudes [-0, -0] |
+//! | `record zero west` | longitudes [-0, 1] |
+//! | `record empty` | latitudes [1, -0] with longitudes [PI, -PI] |
+//! | `record nan` | a good record, but lat.lo is 7FF8000000000000 |
+//! | `record not valid` | longitudes [4, 0] |
+//! | `record mark` | a good record, but with the mark 52 30 |
+//! | `record short` | the first 33 bytes of a good record |
+//! | `record and more` | a good record, then another |
+
+use std::f64::consts::PI;
+
+use super::answer::{answer, marked, record, record_read, RECORD};
+use crate::base::roles::{Rect, EMPTY, NEXT_TO_SEAM};
+use crate::kind::worked::words;
+use crate::kinds::common::question::MOST_RECTS;
+use crate::program::worked::{self, WorkedInput as Case};
+
+const WRONG_MARK: [u8; 2] = [0x52, 0x30];
+
+const WRONG_MARKS: &[[u8; 2]] = &[
+    [0x00, 0x00],
+    [0x51, 0x31],
+    [0x53, 0x31],
+    [0x52, 0x30],
+    [0x52, 0x32],
+    [0x31, 0x52],
+    [0xFF, 0xFF],
+    [0x52, 0x00],
+    [0x00, 0x31],
+];
+
+const NANS: &[u64] = &[0x7FF8_0000_0000_0000, 0x7FF0_0000_0000_0001, 0xFFFF_FFFF_FFFF_FFFF];
+
+/// A name, zones and the answer.
+const LONGITUDES: &[(&str, &[[f64; 2]], &str)] = &[
+    ("both ends", &[[-1.0, 1.0], [1.0, -1.0]], "pieces 2; 0.0 1.0 -1.0 -1.0; 0.0 1.0 1.0 1.0"),
+    ("over the seam", &[[2.0, 1.0], [0.5, 0.25]], "pieces 2; 0.0 1.0 0.5 1.0; 0.0 1.0 2.0 0.25"),
+    ("nearly full", &[[-PI, PI], [NEXT_TO_SEAM, PI]], "pieces 1; 0.0 1.0 C00921FB54442D17 PI"),
+    ("full", &[[-PI, PI]], "pieces 1; 0.0 1.0 -PI PI"),
+    ("empty", &[[PI, -PI]], "pieces 0"),
+    ("two points", &[[0.0, 0.0], [PI, PI]], "pieces 0"),
+    ("seam", &[[PI, PI]], "pieces 1; 0.0 1.0 PI PI"),
+    ("wide", &[[1.0, -1.0], [1.0, -1.0]], "pieces 1; 0.0 1.0 1.0 -1.0"),
+    ("grown", &[[0.0, 1.0]], "pieces 1; 0.0 1.0 0.0 1.0"),
+    ("three zones", &[[-1.0, 1.0], [1.0, -1.0], [-2.0, 2.0]], "pieces 2; 0.0 1.0 -1.0 -1.0; 0.0 1.0 1.0 1.0"),
+];
+
+/// What the program is expected to write.
+pub fn text() -> String {
+    worked::cases(&all(), answer) + &worked::cases(&records(), record_read)
+}
+
+pub fn all() -> Vec<Case> {
+    [counts(), tails(), marks(), refusals(), numbers(), zeros(), zones(), first_faults()].concat()
+}
+
+/// A label, the bytes of the stream, and its answer, worked by hand: a semicolon stands for a newline.
+fn case(label: impl ToString, records: &[Vec<u8>], expected: &str) -> Case {
+    let written = expected.split("; ").map(|line| words(line) + "\n").collect();
+    (label.to_string(), records.concat(), written)
+}
+
+/// A rectangle of the latitudes [0, 1].
+fn zone([lo, hi]: [f64; 2]) -> Rect {
+    [0.0, 1.0, lo, hi]
+}
+
+fn good() -> Vec<u8> {
+    record(zone([-1.0, 1.0]))
+}
+
+fn wrong_mark() -> Vec<u8> {
+    marked(WRONG_MARK, zone([-1.0, 1.0]))
+}
+
+/// A good record, but one number of this pattern.
+fn with(place: usize, bits: u64) -> Vec<u8> {
+    let mut rect = zone([-1.0, 1.0]);
+    rect[place] = f64::from_bits(bits);
+    record(rect)
+}
+
+fn nan() -> Vec<u8> {
+    with(0, NANS[0])
+}
+
+fn counts() -> Vec<Case> {
+    let most = good().repeat(MOST_RECTS);
+    let and = |last: Vec<u8>| [most.clone(), last];
+    vec![
+        case("empty", &[], "pieces 1; -PI/2 PI/2 -PI PI"),
+        case("records 512", std::slice::from_ref(&most), "pieces 1; 0.0 1.0 -1.0 1.0"),
+        case("records 513", &and(good()), "refused 5"),
+        case("records 513 short", &and(good()[..RECORD - 1].to_vec()), "refused 7"),
+        case("records 513 mark", &and(wrong_mark()), "refused 7"),
+        case("records 513 nan", &and(record([f64::from_bits(NANS[0]); 4])), "refused 5"),
+    ]
+}
+
+fn tails() -> Vec<Case> {
+    let tail = |count: usize| case(format!("tail {count}"), &[good(), good()[..count].to_vec()], "refused 7");
+    (1..RECORD).map(tail).collect()
+}
+
+fn marks() -> Vec<Case> {
+    let label = |mark: &[u8; 2]| format!("mark {:02X} {:02X}", mark[0], mark[1]);
+    let one = |mark: &[u8; 2]| case(label(mark), &[marked(*mark, zone([-1.0, 1.0]))], "refused 7");
+    WRONG_MARKS.iter().map(one).collect()
+}
+
+fn refusals() -> Vec<Case> {
+    let bad = [("refused 1", nan()), ("refused 2", record(zone([4.0, 0.0]))), ("refused 7", wrong_mark())];
+    let mut cases = Vec::new();
+    for (refused, entry) in bad {
+        for (name, place) in [("first", 0), ("middle", 2), ("last", 4)] {
+            let mut records = vec![good(); 5];
+            records[place] = entry.clone();
+            cases.push(case(format!("{refused} at {name}"), &records, refused));
+        }
+    }
+    cases
+}
+
+fn numbers() -> Vec<Case> {
+    let nan = |bits: &u64| case(format!("nan {bits:016X}"), &[with(2, *bits)], "refused 1");
+    let mut cases: Vec<Case> = NANS.iter().map(nan).collect();
+    cases.extend([
+        case("infinity", &[with(0, 0x7FF0_0000_0000_0000)], "refused 1"),
+        case("reach", &[with(0, 0x5F30_0000_0000_0000)], "refused 2"),
+        case("beyond", &[with(0, 0x5F30_0000_0000_0001)], "refused 1"),
+    ]);
+    cases
+}
+
+fn zeros() -> Vec<Case> {
+    let both = [record(zone([-0.0, 1.0])), record(zone([0.0, 1.0]))];
+    vec![
+        case("zeros", &[record([-0.0, 0.0, -0.0, -0.0])], "pieces 1; 0.0 0.0 0.0 0.0"),
+        case("zeros both", &both, "pieces 1; 0.0 1.0 0.0 1.0"),
+    ]
+}
+
+fn zones() -> Vec<Case> {
+    let rect = |arc: &[f64; 2]| if *arc == EMPTY[2..] { EMPTY } else { zone(*arc) };
+    let apart = [record([0.0, 0.25, -1.0, 1.0]), record([0.5, 1.0, -1.0, 1.0])];
+    let mut cases = vec![case("latitudes apart", &apart, "pieces 0")];
+    for (name, arcs, expected) in LONGITUDES {
+        let records: Vec<Vec<u8>> = arcs.iter().map(|arc| record(rect(arc))).collect();
+        cases.push(case(format!("longitudes {name}"), &records, expected));
+    }
+    cases
+}
+
+fn first_faults() -> Vec<Case> {
+    vec![
+        case("first fault", &[good(), wrong_mark(), nan()], "refused 7"),
+        case("first fault again", &[good(), nan(), wrong_mark()], "refused 1"),
+    ]
+}
+
+/// Records that are read by themselves.
+pub fn records() -> Vec<Case> {
+    vec![
+        case("record zeros", &[record([-0.0, 0.0, -0.0, -0.0])], "pieces 1; 0.0 0.0 0.0 0.0"),
+        case("record zero west", &[record(zone([-0.0, 1.0]))], "pieces 1; 0.0 1.0 0.0 1.0"),
+        case("record empty", &[record([1.0, -0.0, PI, -PI])], "pieces 1; 1.0 0.0 PI -PI"),
+        case("record nan", &[nan()], "refused 1"),
+        case("record not valid", &[record(zone([4.0, 0.0]))], "refused 2"),
+        case("record mark", &[wrong_mark()], "refused 7"),
+        case("record short", &[good()[..RECORD - 1].to_vec()], "refused 7"),
+        case("record and more", &[good(), good()], "pieces 1; 0.0 1.0 -1.0 1.0"),
+    ]
+}
+
+/// Streams beside the cases: whose first fault is not what a list with the same numbers would be refused with,
+/// and that end within a record.
+pub fn beside() -> Vec<Case> {
+    let many = |count: usize| good().repeat(count);
+    vec![
+        case("513 records, a NaN in the third", &[many(2), nan(), many(510)], "refused 1"),
+        case("514 records, the last one with a wrong mark", &[many(513), wrong_mark()], "refused 5"),
+        case("513 records and a byte", &[many(513), vec![0]], "refused 5"),
+        case("512 records and a byte", &[many(512), vec![0x52]], "refused 7"),
+        case("one byte of the mark", &[vec![0x52]], "refused 7"),
+        case("the mark alone", &[vec![0x52, 0x31]], "refused 7"),
+        case("a short record of NaNs", &[nan()[..33].to_vec()], "refused 7"),
+        case("a short record with a wrong mark", &[wrong_mark()[..10].to_vec()], "refused 7"),
+        case("two bad numbers: 1 before 2", &[record([2.0, 1.0, f64::INFINITY, 1.0])], "refused 1"),
+    ]
+}
