@@ -16,7 +16,7 @@ use doors::{check, edges, plan, tally, vectors};
 use program::{Program, Tried};
 
 const USAGE: &str = "usage: oracle answer | questions COUNT SEED | tally [--arms] QUESTIONS JUDGE OTHER
-       | vectors | edges DIR | check | cases [PROGRAM]";
+       | vectors | edges DIR | check | cases [PROGRAM] [--input]";
 
 fn usage() -> io::Error {
     let doors = |program: &Program| {
@@ -49,7 +49,9 @@ fn run(words: &[&str]) -> io::Result<u8> {
         ["edges", folder] => write_edges(folder).map(|_| 0),
         ["check"] => Ok(u8::from(check::run() > 0)),
         ["cases"] => cases(&programs::ALL[0]),
+        ["cases", "--input"] => case_inputs(&programs::ALL[0]),
         ["cases", name] => cases(program(|program| program.name == *name)?),
+        ["cases", name, "--input"] => case_inputs(program(|program| program.name == *name)?),
         [door] => program_answer(program(|program| program.answer_door == *door)?),
         [door, count, seed, command, limit, folder] => {
             let program = program(|program| program.run_door == *door)?;
@@ -63,8 +65,16 @@ fn program(is_it: impl Fn(&Program) -> bool) -> io::Result<&'static Program> {
     programs::ALL.iter().find(|program| is_it(program)).ok_or_else(usage)
 }
 
+/// Writes what the program NAME_cases must write.
 fn cases(program: &Program) -> io::Result<u8> {
-    io::stdout().write_all((program.cases)().as_bytes()).map(|_| 0)
+    let text: String = (program.cases)().iter().map(|cases| cases.stdout()).collect();
+    io::stdout().write_all(text.as_bytes()).map(|_| 0)
+}
+
+/// Writes what it reads.
+fn case_inputs(program: &Program) -> io::Result<u8> {
+    let bytes: Vec<u8> = (program.cases)().iter().flat_map(|cases| cases.stdin()).collect();
+    io::stdout().write_all(&bytes).map(|_| 0)
 }
 
 /// Writes what the program writes for this standard input, and gives the status that `./run` ends with.

@@ -3,8 +3,8 @@ use mathlib.Core.Path.{_≡_}
 use mathlib.Core.Bool.{true}
 use mathlib.Core.List.{List, [], _∷_}
 use lib.Ieee.{Float, lt, eq}
-use Rattle.lists.specs.Lists.{All, Pairs, Mem, first, later}
-use Rattle.lists.proofs.Entries.{all-at, no-mem}
+use Rattle.entries.specs.Lists.{All, Pairs, Mem, first, later}
+use Rattle.entries.proofs.Entries.{all-at, no-mem}
 use Rattle.arcs.proofs.Orders.{IsNum, cross-at, ahead-at}
 
 -- `k` rises, and `S` says that two entries are one

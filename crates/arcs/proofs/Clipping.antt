@@ -15,8 +15,8 @@ use Rattle.s1.specs.declared.interval.Interval.{Interval}
 use Rattle.s1.specs.Circle.{ends, FULL, isFull, isEmpty}
 use Rattle.s1.specs.Places.{holds, Place, Valid}
 use Rattle.s1.proofs.Held.{at-PI, lo-num, full-fwd}
-use Rattle.lists.specs.Lists.{All, Pairs, Mem, first, later}
-use Rattle.lists.proofs.Entries.{all-at, all-of, no-mem, each-cons, pairs-map}
+use Rattle.entries.specs.Lists.{All, Pairs, Mem, first, later}
+use Rattle.entries.proofs.Entries.{all-at, all-of, no-mem, each-cons, pairs-map}
 use Rattle.arcs.specs.CommonArcs.{everyHolds, someHolds, ArcsApart, ArcsUnjoined, LowerArc, PlainArc, CommonArcs}
 use Rattle.arcs.specs.Clipping.{before, sooner, insert, cut, endAt, clip, whole, step, steps, common}
 use Rattle.arcs.proofs.Tests.{both-ways, off, or-right}

@@ -13,7 +13,7 @@ use Rattle.s1.specs.declared.interval.Interval.{Interval}
 use Rattle.s1.specs.Circle.{ends, isFull, isEmpty}
 use Rattle.s1.specs.Places.{holds}
 use Rattle.s1.proofs.Held.{num-PI, num-NEG}
-use Rattle.lists.specs.Lists.{All}
+use Rattle.entries.specs.Lists.{All}
 use Rattle.arcs.specs.CommonArcs.{someHolds}
 use Rattle.arcs.specs.Clipping.{before, sooner, insert, cut, endAt, clip, whole, step}
 use Rattle.arcs.specs.Inside.{settles, Settled, spares, Spared}

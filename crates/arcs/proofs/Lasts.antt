@@ -7,7 +7,7 @@ use Prim.Native.Nat.{ℕ, _+_, _≤_, _<_}
 use native.Mathlib.Numerals.{add-one}
 use native.Mathlib.Omega.{arith}
 use lib.ListN.{length, take, drop, getD, set}
-use lib.Seq.{take-suc-set}
+use lib.Seq.{take-suc-set, take-set-le}
 use lib.Ieee.{Float, nan, binary64, fits, lt, le, eq}
 use Rattle.order.specs.Key.{Num}
 use Rattle.order.specs.Choice.{min, max}
@@ -18,12 +18,13 @@ use Rattle.s1.specs.declared.interval.Interval.{Interval}
 use Rattle.s1.specs.Circle.{ends, isFull, isEmpty}
 use Rattle.s1.specs.Places.{holds}
 use Rattle.s1.proofs.Held.{num-PI, num-NEG}
-use Rattle.lists.specs.Lists.{All}
+use Rattle.entries.specs.Lists.{All}
 use Rattle.arcs.specs.CommonArcs.{someHolds}
 use Rattle.arcs.specs.Clipping.{before, sooner, insert, cut, endAt, clip, whole, step, steps}
-use Rattle.arcs.specs.Arrays.{zip}
+use Rattle.sort.specs.Arrays.{zip}
 use Rattle.arcs.specs.Inside.{settles, Settled, Spared, passes, Passed, parted, closed, IsSwept, IsClosed, Skipped, Left, IsEnded}
-use Rattle.arcs.proofs.Turns.{zip-length, zip-set, step-first, clip-open, clip-cut, clipped-turn}
+use Rattle.sort.proofs.Arrays.{zip-length, zip-set}
+use Rattle.arcs.proofs.Turns.{step-first, clip-open, clip-cut, clipped-turn}
 use Rattle.arcs.proofs.Fronts.{lt-no, lt-ne, lt-le-lt, le-lt, holds-is, before-is, inverted, lo-under, num-hi, num-lo, arc-some, all-still, step-front, step-settled, all-append}
 
 -- ---- what is used of a piece that goes on past the gap, whether it leads over the seam or not
@@ -258,7 +259,7 @@ module _ (west east lo hi : List Float) (first n : ℕ) (start : Interval) (k f 
       new-part : lt NEG-PI r ≡ true
       new-part = rw m (above (x .lo) (getD west k nan) (p .lo-double) (num-lo a b o) (w .part))
 
-      pub parted-turn : le (x .lo) (getD east k nan) ≡ true
+      parted-turn : le (x .lo) (getD east k nan) ≡ true
           → IsSwept (take n (zip west east)) first n start (record { k = k + 1; f = f + 1; b = getD east k nan; x = ends r (x .hi) }) (zip (set lo f (x .lo)) (set hi f (getD east k nan)))
       parted-turn e = record {
         is = ap (λ (l : List Interval). steps (l ++ (ends r (x .hi) ∷ [])) (drop (k + 1) (take n (zip west east)))) put
@@ -277,16 +278,30 @@ module _ (west east lo hi : List Float) (first n : ℕ) (start : Interval) (k f 
           new-one : Settled (a .hi) (ends (x .lo) (a .hi))
           new-one = unfold settles in record { lo-double = p .lo-double; hi-double = o .hi-double; is-settled = and-of e (le-refl (a .hi) (num-hi a b o)) }
 
-      pub moved-turn : le (x .lo) (getD east k nan) ≡ false
-          → IsSwept (take n (zip west east)) first n start (record { k = k + 1; f = f; b = getD east k nan; x = ends r (x .hi) }) (zip lo hi)
+      moved-turn : le (x .lo) (getD east k nan) ≡ false
+          → IsSwept (take n (zip west east)) first n start (record { k = k + 1; f = f; b = getD east k nan; x = ends r (x .hi) }) (zip (set lo f (x .lo)) (set hi f (getD east k nan)))
       moved-turn e = record {
-        is = last-turn (ends r (x .hi) ∷ []) (p .lo-double) (parted-is a x b o p ∙ parted-as a x false e ∙ ap (λ (y : Float). ends y (x .hi) ∷ []) (sym m));
-        settled = all-still a b o front (w .settled);
+        is = ap (λ (l : List Interval). steps (l ++ (ends r (x .hi) ∷ [])) (drop (k + 1) (take n (zip west east)))) as-before
+            ∙ last-turn (ends r (x .hi) ∷ []) (p .lo-double) (parted-is a x b o p ∙ parted-as a x false e ∙ ap (λ (y : Float). ends y (x .hi) ∷ []) (sym m));
+        settled = rw as-before (all-still a b o front (w .settled));
         part = new-part;
         from = omega (arith, w .from);
         up-to = omega arith;
         few = omega (arith, w .few);
       }
+        where
+          as-before : take f (zip (set lo f (x .lo)) (set hi f (a .hi))) ≡ front
+          as-before = rw (zip-set lo hi f (x .lo) (a .hi)) (take-set-le f (zip lo hi) f (ends (x .lo) (a .hi)) (omega arith))
+
+      -- either way: the piece is put after the front, and g counts it where the gap parts it
+      pub swept-turn : (g : ℕ) → g ≡ cond (le (x .lo) (getD east k nan)) (f + 1) f
+          → IsSwept (take n (zip west east)) first n start (record { k = k + 1; f = g; b = getD east k nan; x = ends r (x .hi) }) (zip (set lo f (x .lo)) (set hi f (getD east k nan)))
+      swept-turn g e = rw e (by-test (le (x .lo) (getD east k nan)) refl)
+        where
+          by-test : (t : Bool) → le (x .lo) (getD east k nan) ≡ t
+              → IsSwept (take n (zip west east)) first n start (record { k = k + 1; f = cond t (f + 1) f; b = getD east k nan; x = ends r (x .hi) }) (zip (set lo f (x .lo)) (set hi f (getD east k nan)))
+          by-test true h = parted-turn h
+          by-test false h = moved-turn h
 
 -- ---- a turn over arcs that leave settled pieces as they are
 pub skipped-turn : (west east : List Float) (first n k : ℕ) (b : Float) → k < n → n ≤ length west → length west ≡ length east → Skipped (take n (zip west east)) first n b k

@@ -8,6 +8,5 @@ pub mod Insertion
 pub mod Turns
 pub mod Fronts
 pub mod Lasts
-pub mod Permutations
 pub mod Rising
 pub mod Laws

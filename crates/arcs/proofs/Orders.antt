@@ -15,9 +15,9 @@ use Rattle.consts.specs.Constants.{PI, NEG-PI}
 use Rattle.s1.specs.declared.interval.Interval.{Interval}
 use Rattle.s1.specs.Circle.{ends, isValid, isFull, isEmpty}
 use Rattle.s1.specs.Places.{place, holds, Place, Valid}
-use Rattle.s1.proofs.Forms.{fullG, emptyG}
+use Rattle.trials.proofs.Forms.{fullG, emptyG}
 use Rattle.s1.proofs.Spots.{Stands}
-use Rattle.s1.proofs.Trials.{Six, Eight, validN, placeN, holdsN, intervals, places, trial₀, trial}
+use Rattle.trials.proofs.Trials.{Six, Eight, validN, placeN, holdsN, intervals, places, trial₀, trial}
 use Rattle.s1.proofs.Held as held
 use Rattle.s1.proofs.Held.{at-PI, num-PI, num-NEG, lo-num, hi-num, at-num}
 use Rattle.arcs.specs.Clipping.{before}

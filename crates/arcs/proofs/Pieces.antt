@@ -18,8 +18,8 @@ use Rattle.s1.specs.declared.interval.Interval.{Interval}
 use Rattle.s1.specs.Circle.{ends, FULL, isValid, isFull, isEmpty}
 use Rattle.s1.specs.Places.{place, holds, Place, Valid, Meets}
 use Rattle.s1.proofs.Held.{at-PI, lo-num, clash, full-fwd, empty-fwd}
-use Rattle.lists.specs.Lists.{All, Pairs, Mem, first, later}
-use Rattle.lists.proofs.Entries.{all-at, all-of, each-cons}
+use Rattle.entries.specs.Lists.{All, Pairs, Mem, first, later}
+use Rattle.entries.proofs.Entries.{all-at, all-of, each-cons}
 use Rattle.arcs.specs.CommonArcs.{everyHolds, someHolds, ArcsApart, CommonArc, ArcsUnjoined, LowerArc, PlainArc, CommonArcs}
 use Rattle.arcs.specs.Clipping.{before, insert}
 use Rattle.arcs.proofs.Tests.{or-right, off, decide, refute, prove, neither}

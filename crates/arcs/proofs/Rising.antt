@@ -18,19 +18,19 @@ use Rattle.s1.specs.Circle.{FULL, isValid, isFull, isEmpty}
 use Rattle.s1.specs.Places.{holds, Place, Valid}
 use Rattle.s1.proofs.Readings.{num-of}
 use Rattle.s1.proofs.Held.{num-PI, num-NEG, at-num}
-use Rattle.lists.specs.Lists.{All, Mem, first, later}
-use Rattle.lists.proofs.Entries.{all-at, all-of, each-cons}
+use Rattle.entries.specs.Lists.{All, Mem, first, later}
+use Rattle.entries.proofs.Entries.{all-at, all-of, each-cons}
 use Rattle.arcs.specs.CommonArcs.{everyHolds, someHolds, PlainArc, AreRead, CommonArcs}
 use Rattle.arcs.specs.Clipping.{step, steps, common}
 use Rattle.arcs.specs.Kinds.{rises, narrowed, risen, crossing, met}
-use Rattle.arcs.specs.Permutations.{Permuted}
+use Rattle.sort.specs.Permutations.{Permuted}
 use Rattle.arcs.proofs.Tests.{both-ways, off, or-right}
 use Rattle.arcs.proofs.Orders.{rising-at}
 use Rattle.arcs.proofs.Pieces.{full-full, full-valid, full-plain}
 use Rattle.arcs.proofs.Clipping.{full-whole, every-same, same-common, common-is}
 use Rattle.arcs.proofs.Unique.{unique, equal-arcs}
 use Rattle.arcs.proofs.Turns.{step-full, step-first}
-use Rattle.arcs.proofs.Permutations.{permuted-entries}
+use Rattle.sort.proofs.Permutations.{permuted-entries}
 
 -- ---- the order of numbers
 lt-before : (x y z : Float) → Num x ≡ true → Num y ≡ true → Num z ≡ true → lt x y ≡ true → le y z ≡ true → lt x z ≡ true

@@ -15,34 +15,15 @@ use Rattle.order.proofs.Ranks.{and-l, and-r, and-of}
 use Rattle.s1.specs.declared.interval.Interval.{Interval}
 use Rattle.s1.specs.Circle.{ends, fastContains, isFull, isEmpty}
 use Rattle.s1.specs.Places.{holds}
+use Rattle.sort.specs.Arrays.{zip}
+use Rattle.sort.proofs.Arrays.{zip-length, zip-at, zip-set}
 use Rattle.arcs.specs.CommonArcs.{someHolds}
 use Rattle.arcs.specs.Clipping.{sooner, insert, cut, endAt, clip, whole, step, steps}
-use Rattle.arcs.specs.Arrays.{zip, room}
+use Rattle.arcs.specs.Arrays.{room}
 use Rattle.arcs.specs.Inside.{Room}
 use Rattle.arcs.proofs.Insertion.{walk, turn-move, turn-past, turn-same, turn-end}
 
 -- ---- two arrays as one list
-pub zip-length : (l h : List Float) → length l ≡ length h → length (zip l h) ≡ length l
-unfolding zip
-zip-length [] h e = refl
-zip-length (x ∷ l) [] e = absurd (omega arith)
-zip-length (x ∷ l) (y ∷ h) e = ap suc (zip-length l h (omega arith))
-
-pub zip-at : (l h : List Float) (k : ℕ) (x y : Float) (z : Interval) → k < length l → length l ≡ length h → getD (zip l h) k z ≡ ends (getD l k x) (getD h k y)
-unfolding zip
-zip-at [] h k x y z b e = absurd (omega arith)
-zip-at (a ∷ l) [] k x y z b e = absurd (omega arith)
-zip-at (a ∷ l) (c ∷ h) zero x y z b e = refl
-zip-at (a ∷ l) (c ∷ h) (suc k) x y z b e = zip-at l h k x y z (omega arith) (omega arith)
-
-pub zip-set : (l h : List Float) (k : ℕ) (x y : Float) → zip (set l k x) (set h k y) ≡ set (zip l h) k (ends x y)
-unfolding zip
-zip-set [] h k x y = refl
-zip-set (a ∷ l) [] zero x y = refl
-zip-set (a ∷ l) [] (suc k) x y = refl
-zip-set (a ∷ l) (c ∷ h) zero x y = refl
-zip-set (a ∷ l) (c ∷ h) (suc k) x y = ap (λ (r : List Interval). ends a c ∷ r) (zip-set l h k x y)
-
 -- the first n of them are n
 pub length-first : (l h : List Float) (n : ℕ) → n ≤ length l → length l ≡ length h → length (take n (zip l h)) ≡ n
 length-first l h n b e = length-take-le n (zip l h) (omega (arith, zip-length l h e))

@@ -13,8 +13,8 @@ use Rattle.s1.specs.Circle as circle
 use Rattle.s1.specs.Circle.{isEmpty}
 use Rattle.s1.specs.Places.{Place, Valid, holds, Inside, Meets}
 use Rattle.s1.proofs.Held.{lo-num, hi-num, inside-same}
-use Rattle.lists.specs.Lists.{All, Mem}
-use Rattle.lists.proofs.Entries.{all-at, pair-cases, all-map}
+use Rattle.entries.specs.Lists.{All, Mem}
+use Rattle.entries.proofs.Entries.{all-at, pair-cases, all-map}
 use Rattle.arcs.specs.CommonArcs.{everyHolds, ArcsApart, CommonArc, ArcsUnjoined, PlainArc, CommonArcs}
 use Rattle.arcs.proofs.Orders.{IsNum, lo-is}
 use Rattle.arcs.proofs.Pieces.{own-hi, some-of, some-at}

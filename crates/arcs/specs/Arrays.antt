@@ -1,21 +1,15 @@
 -- What `meet` answers, and what it leaves in the arrays that it is lent: western ends in one, eastern ends in another. Definitions only.
 use mathlib.Core.Path.{_≡_}
 use mathlib.Core.Bool.{Bool, true, false, _&&_}
-use mathlib.Core.List.{List, [], _∷_}
+use mathlib.Core.List.{List, _∷_}
 use Prim.Native.Nat.{ℕ, _+_, _≤_}
 use lib.ListN.{length, take}
 use lib.Dec.{leb, ltb, eqb}
 use lib.Ieee.{Float}
 use Rattle.s1.specs.declared.interval.Interval.{Interval}
-use Rattle.s1.specs.Circle.{ends}
+use Rattle.sort.specs.Arrays.{zip}
 use Rattle.arcs.specs.CommonArcs.{AreRead}
 use Rattle.arcs.specs.Kinds.{rises, met}
-
--- two arrays as one list of arcs
-unfoldable pub zip : List Float → List Float → List Interval
-zip [] h = []
-zip (x ∷ l) [] = []
-zip (x ∷ l) (y ∷ h) = ends x y ∷ zip l h
 
 -- of these lengths, the arrays have room for n arcs, at most 512, and for one piece more
 unfoldable pub room : ℕ → ℕ → ℕ → ℕ → ℕ → Bool

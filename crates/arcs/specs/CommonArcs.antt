@@ -8,7 +8,7 @@ use Rattle.consts.specs.Reading.{plain}
 use Rattle.s1.specs.declared.interval.Interval.{Interval}
 use Rattle.s1.specs.Circle.{isEmpty}
 use Rattle.s1.specs.Places.{Place, Valid, holds, Meets}
-use Rattle.lists.specs.Lists.{All, Pairs}
+use Rattle.entries.specs.Lists.{All, Pairs}
 
 -- the place lies in every arc of the list; in one of them
 unfoldable pub everyHolds : List Interval → Float → Bool → Bool

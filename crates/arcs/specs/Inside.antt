@@ -10,13 +10,13 @@ use Rattle.order.specs.Choice.{min, max}
 use Rattle.consts.specs.Constants.{PI, NEG-PI}
 use Rattle.s1.specs.declared.interval.Interval.{Interval}
 use Rattle.s1.specs.Circle.{ends}
-use Rattle.lists.specs.Lists.{All}
+use Rattle.entries.specs.Lists.{All}
 use Rattle.arcs.specs.declared.clip.Cut.{Cut}
 use Rattle.arcs.specs.declared.clip.Clipped.{Clipped}
 use Rattle.arcs.specs.declared.sweep.Swept.{Swept}
 use Rattle.arcs.specs.CommonArcs.{someHolds}
 use Rattle.arcs.specs.Clipping.{cut, endAt, steps}
-use Rattle.arcs.specs.Permutations.{Permuted}
+use Rattle.sort.specs.Permutations.{Permuted}
 
 -- ---- room for n arcs, at most 512, and for one piece more
 pub record Room (n : ℕ) (west east lo hi : List Float) : Type 0 where

@@ -2,5 +2,4 @@ pub mod CommonArcs
 pub mod Clipping
 pub mod Kinds
 pub mod Arrays
-pub mod Permutations
 pub mod Inside

@@ -10,7 +10,7 @@ ghost use lib.ListN.{length, take};
 ghost use lib.Dec.{eqb};
 ghost use Rattle.s1.specs.Circle.{fastContains, isFull};
 ghost use Rattle.arcs.specs.Clipping.{before, sooner, insert, clip, step};
-ghost use Rattle.arcs.specs.Arrays.{zip};
+ghost use Rattle.sort.specs.Arrays.{zip};
 ghost use Rattle.arcs.specs.Inside.{Room, IsCut, Firsts, IsClipped};
 
 // Whether x is met no later than y, going east from s.
@@ -32,7 +32,7 @@ fn sooner(s: f64, x: f64, y: f64) -> f64
 }
 
 // One more, where it is kept.
-fn past(m: usize, keep: bool) -> usize
+pub(crate) fn past(m: usize, keep: bool) -> usize
     requires { ⌜ m < 1024 ⌝ }
     ensures { λ r. ⌜ r ≡ cond keep (m + 1) m ⌝ }
 {

@@ -2,11 +2,9 @@
 // two can be joined (specs/CommonArcs.antt). The arcs are handed over as two kinds: those that do not cross
 // the seam are narrowed to one (`narrowed`), and the others lie in two lent arrays. `meet` finds the common
 // pieces of them all. One piece is clipped by arcs that cross the seam (`sweep`), which are put in order
-// before (`sort`, by `keys`); `clip` clips any pieces by any arc.
+// before (the crate `sort`); `clip` clips any pieces by any arc.
 mod clip;
-mod keys;
 mod meeting;
-mod sort;
 mod sweep;
 
 pub use meeting::meet;

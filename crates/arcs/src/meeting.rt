@@ -3,14 +3,15 @@
 // order.
 use crate::clip::Clipped;
 use crate::clip::clip_while;
-use crate::sort::sort;
 use crate::sweep::sweep;
 use s1::interval::Interval;
+use sort::sort;
 ghost use mathlib.Core.Path.{_≡_};
 ghost use Prim.Native.Nat.{_<_};
 ghost use lib.ListN.{length, take};
 ghost use Rattle.arcs.specs.Kinds.{narrowed};
-ghost use Rattle.arcs.specs.Arrays.{zip, room, Met};
+ghost use Rattle.sort.specs.Arrays.{zip};
+ghost use Rattle.arcs.specs.Arrays.{room, Met};
 ghost use Rattle.arcs.specs.Inside.{Room, IsTried, IsMet};
 
 // So many arcs are sorted at once. With more of them it pays to try first whether few pieces, or none,

@@ -3,6 +3,7 @@
 // touches only the last piece: those before it, the front, are settled, and the last one is kept out of the
 // arrays. That the arcs come so is tested at each one; where one does not, `clip` goes on.
 use crate::clip::clip_while;
+use crate::clip::past;
 use consts::NEG_PI;
 use consts::PI;
 use s1::circle;
@@ -15,7 +16,7 @@ ghost use lib.ListN.{length, take, drop};
 ghost use lib.Ieee.{lt};
 ghost use Rattle.consts.specs.Constants.{NEG-PI};
 ghost use Rattle.arcs.specs.Clipping.{steps};
-ghost use Rattle.arcs.specs.Arrays.{zip};
+ghost use Rattle.sort.specs.Arrays.{zip};
 ghost use Rattle.arcs.specs.Inside.{Room, Spared, Passed, IsSwept, IsClosed, Skipped, Left, IsEnded};
 
 // Where a sweep stopped: at the arc k, with f pieces settled, which end at b or before it, and x after them.
@@ -45,7 +46,8 @@ fn passes(a: Interval, x: Interval) -> bool
 }
 
 // The piece `start` clipped by the arcs from first on, as long as it goes on past the gap of each: a gap
-// parts it, or moves its western end. What is west of the gap is settled.
+// parts it, or moves its western end. What is west of the gap is put after the settled ones, and counted
+// among them where there is anything: so there is no branch for a processor to foretell.
 fn sweep_last(
     west: &[f64],
     east: &[f64],
@@ -71,11 +73,9 @@ fn sweep_last(
         if !(spares(a, b) & passes(a, x)) {
             return Swept { k, f, b, x };
         }
-        if x.lo <= a.hi {
-            lo[f] = x.lo;
-            hi[f] = a.hi;
-            f += 1;
-        }
+        lo[f] = x.lo;
+        hi[f] = a.hi;
+        f = past(f, x.lo <= a.hi);
         x.lo = order::max(x.lo, a.lo);
         b = a.hi;
         k += 1;

@@ -1,14 +1,13 @@
 // The questions `bbox.`: a bbox array as a box, a box as a bbox array, and a box as a rectangle. A box is
 // asked with as its four whole numbers: west, south, east and north.
-use crate::parse;
-use crate::parse::Whole;
-use crate::print;
-use crate::rect::rect;
-use crate::reply::Reply;
-use bbox::Bounds;
+use bounds::Bounds;
+use protocol::parse;
+use protocol::parse::Whole;
+use protocol::reply::Reply;
+use questions::rect::rect;
 ghost use Prim.Native.Nat.{_+_, _≤_};
 ghost use lib.ListN.{length};
-ghost use Rattle.ask.specs.Room.{room};
+ghost use Rattle.replies.specs.Room.{room};
 
 // The most bytes of a text to read: a line has no room for the digits of more.
 const LONGEST: usize = 100000;
@@ -34,10 +33,10 @@ pub(crate) fn read(s: &[u8], at: usize, out: &mut [u8]) -> usize
     let mut bytes = [0u8; LONGEST];
     let count = parse::text(s, &mut bytes);
     if count > LONGEST {
-        return print::unknown(at, out);
+        return replies::unknown(at, out);
     }
     let a = bbox::read(&bytes[..count]);
-    print::bounds(a.refusal, a.value, at, out)
+    replies::bounds(a.refusal, a.value, at, out)
 }
 
 // The same for `bbox.write`.
@@ -47,7 +46,7 @@ pub(crate) fn write(s: &[u8], at: usize, out: &mut [u8]) -> usize
 {
     let n = parse::room_of(s);
     let Asked::Of(b) = bounds(s, n.end) else {
-        return print::unknown(at, out);
+        return replies::unknown(at, out);
     };
     written(b, n.count, at, out)
 }
@@ -58,7 +57,7 @@ fn written(b: Bounds, n: usize, at: usize, out: &mut [u8]) -> usize
     ensures { λ r. ⌜ r ≤ length (now (out .exit)) ⌝ }
 {
     if n > MOST {
-        return print::unknown(at, out);
+        return replies::unknown(at, out);
     }
     let mut x = [BEFORE; MOST];
     put(b, &mut x[..n], at, out)
@@ -70,8 +69,8 @@ fn put(b: Bounds, x: &mut [u8], at: usize, out: &mut [u8]) -> usize
     requires { ⌜ length (now x) ≤ 99 ⌝ }
     ensures { λ r. ⌜ r ≤ length (now (out .exit)) ⌝ }
 {
-    let w = bbox::write(b, x);
-    print::text(w.refusal, w.count, x, at, out)
+    let w = bbox_text::write(b, x);
+    replies::text(w.refusal, w.count, x, at, out)
 }
 
 // The answer to `bbox.rect`, of which s is what follows the name.

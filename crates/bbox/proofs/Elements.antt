@@ -11,9 +11,10 @@ use lib.ListN.{getD, length, drop, length-append}
 use lib.IntN.{ℤ}
 use Rattle.bbox.specs.declared.number.Reading.{Reading}
 use Rattle.bbox.specs.declared.number.Reading.the-variants.{Got, Bad}
-use Rattle.bbox.specs.Grammar.{isDigit, isSpace, areSpaces, Element, is-element}
+use Rattle.bbox_text.specs.Grammar.{isDigit, isSpace, areSpaces, Element, is-element}
 use Rattle.bbox.specs.Reading.{numberOf, skipOf, spacesOf, markOf, elementOf}
-use Rattle.bbox.proofs.Positions.{and-left, and-right, space-more, space-none, first, past, next, here, room}
+use Rattle.bounds.proofs.Tests.{and-left, and-right}
+use Rattle.bbox.proofs.Positions.{space-more, space-none, first, past, next, here, room}
 use Rattle.bbox.proofs.Numbers.{number-first, accepted-number, NumberAt, only-numbers}
 
 -- ---- bytes: a space is not 0, no digit and no point

@@ -9,14 +9,14 @@ use borrow.Author.Tests.{ltb-false, le-ltb, eqb-true}
 use lib.Dec.{ltb, eqb}
 use lib.ListN.{getD, length, drop, length-drop, drop-of-length-le}
 use lib.IntN.{ℤ}
-use Rattle.bbox.specs.declared.bounds.Bounds.{Bounds}
+use Rattle.bounds.specs.declared.bounds.Bounds.{Bounds}
 use Rattle.bbox.specs.declared.number.Reading.{Reading}
 use Rattle.bbox.specs.declared.number.Reading.the-variants.{Got, Bad}
 use Rattle.bbox.specs.declared.reader.Answer.{Answer}
 use Rattle.bbox.specs.declared.reader.Four.{Four}
 use Rattle.bbox.specs.declared.reader.Four.the-variants.{Numbers, Not}
-use Rattle.bbox.specs.Bounds.{inLimits, placed}
-use Rattle.bbox.specs.Grammar.{isDigit, isSpace, Element, Array, is-array}
+use Rattle.bounds.specs.Bounds.{inLimits, placed}
+use Rattle.bbox_text.specs.Grammar.{isDigit, isSpace, Element, Array, is-array}
 use Rattle.bbox.specs.Reading.{spacesOf, elementOf, thenOf, fourOf, zerosUnder, judgedOf, readOf}
 use Rattle.bbox.proofs.Positions.{first, past, next, here}
 use Rattle.bbox.proofs.Elements.{read-spaces, SpacesAt, found-spaces, accepted-element, ElementAt, only-elements}

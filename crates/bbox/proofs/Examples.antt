@@ -1,14 +1,12 @@
--- Worked examples of reading and writing, computed from the definitions that the contracts cite. Assumes nothing.
+-- Worked examples of reading, computed from the definitions that the contract cites. Assumes nothing.
 use mathlib.Core.Path.{_≡_, refl}
 use mathlib.Core.List.{[], _∷_}
 use lib.IntN.{ℤ, pos, negℤ}
-use Rattle.text.specs.Text.{hexDigit, decimalText}
-use Rattle.bbox.specs.declared.bounds.Bounds.{Bounds}
+use Rattle.bounds.specs.declared.bounds.Bounds.{Bounds}
 use Rattle.bbox.specs.declared.reader.Answer.{Answer}
-use Rattle.bbox.specs.Bounds.{within, inLimits, isWestmost, isEastmost, wholeCircle, seamRead, placed}
-use Rattle.bbox.specs.Grammar.{isDigit, isSpace, signed}
+use Rattle.bounds.specs.Bounds.{within, inLimits, isWestmost, isEastmost, wholeCircle, seamRead, placed}
+use Rattle.bbox_text.specs.Grammar.{isDigit, isSpace, signed}
 use Rattle.bbox.specs.Reading.{turnOf, turnsOf, wholeOf, gotOf, fractionOf, pointOf, magnitudeOf, numberOf, skipOf, spacesOf, markOf, elementOf, thenOf, fourOf, zerosUnder, judgedOf, readOf}
-use Rattle.bbox.specs.Text.{decimals, fracText, sizeText, numberText, elementText, textOf}
 
 -- west, south, east and north in ten-millionths of a degree
 abbrev box : ℤ → ℤ → ℤ → ℤ → Bounds
@@ -17,7 +15,6 @@ box w s e n = record { west = w; south = s; east = e; north = n }
 abbrev accepted : Bounds → Answer
 accepted b = record { refusal = 0; value = b }
 
--- ---- reading
 -- `[ -180,-90,180,90.0 ]`: the whole sphere
 pub whole-sphere : readOf (91 ∷ (32 ∷ (45 ∷ (49 ∷ (56 ∷ (48 ∷ (44 ∷ (45 ∷ (57 ∷ (48 ∷ (44 ∷ (49 ∷ (56 ∷ (48 ∷ (44 ∷ (57 ∷ (48 ∷ (46 ∷ (48 ∷ (32 ∷ (93 ∷ []))))))))))))))))))))) ≡ accepted (box (negℤ (pos 1800000000)) (negℤ (pos 900000000)) (pos 1800000000) (pos 900000000))
 unfolding readOf judgedOf fourOf thenOf elementOf markOf spacesOf skipOf isSpace numberOf magnitudeOf pointOf fractionOf gotOf signed wholeOf turnsOf turnOf isDigit inLimits within wholeCircle isWestmost isEastmost seamRead placed
@@ -62,14 +59,3 @@ out-of-range = refl
 pub south-above : readOf (91 ∷ (48 ∷ (44 ∷ (49 ∷ (44 ∷ (48 ∷ (44 ∷ (48 ∷ (93 ∷ []))))))))) ≡ zerosUnder 9
 unfolding readOf judgedOf fourOf thenOf elementOf markOf spacesOf skipOf isSpace numberOf magnitudeOf pointOf fractionOf gotOf signed wholeOf turnsOf turnOf isDigit inLimits within wholeCircle isWestmost isEastmost seamRead placed
 south-above = refl
-
--- ---- writing
--- `[-180,-0.0000001,180,90]`
-pub paper-text : textOf (box (negℤ (pos 1800000000)) (negℤ (pos 1)) (pos 1800000000) (pos 900000000)) ≡ (91 ∷ (45 ∷ (49 ∷ (56 ∷ (48 ∷ (44 ∷ (45 ∷ (48 ∷ (46 ∷ (48 ∷ (48 ∷ (48 ∷ (48 ∷ (48 ∷ (48 ∷ (49 ∷ (44 ∷ (49 ∷ (56 ∷ (48 ∷ (44 ∷ (57 ∷ (48 ∷ (93 ∷ []))))))))))))))))))))))))
-unfolding textOf elementText numberText sizeText fracText decimals decimalText hexDigit
-paper-text = refl
-
--- `[0,10.5,99.05,10.5]`
-pub zeros-left-out : textOf (box (pos 0) (pos 105000000) (pos 990500000) (pos 105000000)) ≡ (91 ∷ (48 ∷ (44 ∷ (49 ∷ (48 ∷ (46 ∷ (53 ∷ (44 ∷ (57 ∷ (57 ∷ (46 ∷ (48 ∷ (53 ∷ (44 ∷ (49 ∷ (48 ∷ (46 ∷ (53 ∷ (93 ∷ [])))))))))))))))))))
-unfolding textOf elementText numberText sizeText fracText decimals decimalText hexDigit
-zeros-left-out = refl

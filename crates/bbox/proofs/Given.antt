@@ -5,14 +5,14 @@ use mathlib.Core.Bool.{Bool, true, false, cond}
 use mathlib.Core.List.{List}
 use Prim.Native.Nat.{ℕ}
 use native.Mathlib.Omega.{arith}
-use Rattle.bbox.specs.declared.bounds.Bounds.{Bounds}
+use Rattle.bounds.specs.declared.bounds.Bounds.{Bounds}
 use Rattle.bbox.specs.declared.reader.Answer.{Answer}
 use Rattle.bbox.specs.declared.reader.Four.{Four}
 use Rattle.bbox.specs.declared.reader.Four.the-variants.{Numbers, Not}
-use Rattle.bbox.specs.Bounds.{inLimits, placed, givable}
-use Rattle.bbox.specs.Grammar.{Array}
+use Rattle.bounds.specs.Bounds.{inLimits, placed, givable}
+use Rattle.bbox_text.specs.Grammar.{Array}
 use Rattle.bbox.specs.Reading.{fourOf, zerosUnder, judgedOf, readOf}
-use Rattle.bbox.proofs.Boxes.{placed-given}
+use Rattle.bounds.proofs.Boxes.{placed-given}
 use Rattle.bbox.proofs.Exactly.{only-arrays}
 
 -- what was accepted: the text is an array of a box within the limits, and -180 is read in it

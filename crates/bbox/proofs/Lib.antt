@@ -2,15 +2,7 @@ pub mod Positions
 pub mod Numbers
 pub mod Elements
 pub mod Exactly
-pub mod Fits
-pub mod Boxes
 pub mod Given
-pub mod Grown
-pub mod Written
-pub mod Fewest
-pub mod Room
 pub mod Round
-pub mod Answers
 pub mod Examples
-pub mod Spaces
 pub mod Promises

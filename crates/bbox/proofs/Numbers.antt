@@ -15,9 +15,11 @@ use Rattle.text.specs.Text.{digitValue, value}
 use Rattle.bbox.specs.declared.number.Run.{Run}
 use Rattle.bbox.specs.declared.number.Reading.{Reading}
 use Rattle.bbox.specs.declared.number.Reading.the-variants.{Got, Bad}
-use Rattle.bbox.specs.Grammar.{isDigit, areDigits, Int, zero-alone, one-to-three, Frac, no-point, with-point, isSpace, minusText, signed, Number, is-number}
+use Rattle.bbox_text.specs.Grammar.{isDigit, areDigits, Int, zero-alone, one-to-three, Frac, no-point, with-point, isSpace, minusText, signed, Number, is-number}
 use Rattle.bbox.specs.Reading.{turnOf, turnsOf, wholeOf, gotOf, fractionOf, pointOf, magnitudeOf, numberOf}
-use Rattle.bbox.proofs.Positions.{and-left, and-right, digit-low, digit-high, first, past, next, here}
+use Rattle.bounds.proofs.Tests.{and-left, and-right}
+use Rattle.bbox_text.proofs.Digits.{digit-low, digit-high}
+use Rattle.bbox.proofs.Positions.{first, past, next, here}
 
 -- ---- a front of at most n digits t, and after them no digit where they are fewer
 data Front : ℕ → List ℕ → List ℕ → Type 0 where

@@ -1,38 +1,22 @@
 -- What stands at a position of a text: a byte that is not 0 stands inside it; a turn adds one digit to the value, so that the whole degrees stay under 1,000
 -- and a number under ten billion; spaces are passed one by one. By the tests of one turn, and induction on the count of turns. Assumes nothing.
 use mathlib.Core.Path.{_≡_, refl, sym, ap, _∙_}
-use mathlib.Core.Bool.{Bool, true, false, _&&_, cond}
+use mathlib.Core.Bool.{Bool, true, false, cond}
 use mathlib.Core.List.{List, [], _∷_, _++_}
 use Prim.Native.Nat.{ℕ, zero, suc, _+_, _-_, _*_, _^_, _≤_, _<_}
 use native.Mathlib.Nat.{pow-suc, mul-assoc, mul-comm, mul-le-mul-right}
 use native.Mathlib.Numerals.{add-one}
 use native.Mathlib.Omega.{arith}
-use borrow.Author.Tests.{leb-true, ltb-true, ltb-false}
-use lib.Dec.{leb, ltb, eqb}
+use borrow.Author.Tests.{ltb-true, ltb-false}
+use lib.Dec.{ltb, eqb}
 use lib.ListN.{getD, length, drop, length-drop, List·getD-eq-default}
 use lib.Seq.{getD-drop, drop-drop, drop-cons, drop-append-seam}
+use Rattle.bbox_text.proofs.Digits.{digit-high}
 use Rattle.bbox.specs.declared.number.Run.{Run}
-use Rattle.bbox.specs.Grammar.{isDigit, isSpace}
+use Rattle.bbox_text.specs.Grammar.{isDigit, isSpace}
 use Rattle.bbox.specs.Reading.{turnOf, turnsOf, wholeOf, fractionOf, skipOf, spacesOf}
 
-pub and-left : (a b : Bool) → a && b ≡ true → a ≡ true
-and-left true b h = refl
-and-left false b h = h
-
-pub and-right : (a b : Bool) → a && b ≡ true → b ≡ true
-and-right true b h = h
-and-right false true h = refl
-and-right false false h = h
-
 -- ---- bytes
-pub digit-low : (b : ℕ) → isDigit b ≡ true → 48 ≤ b
-unfolding isDigit
-digit-low b h = leb-true 48 b (and-left (leb 48 b) (leb b 57) h)
-
-pub digit-high : (b : ℕ) → isDigit b ≡ true → b ≤ 57
-unfolding isDigit
-digit-high b h = leb-true b 57 (and-right (leb 48 b) (leb b 57) h)
-
 pub inside : (l : List ℕ) (at : ℕ) → 0 < getD l at 0 → at < length l
 inside l at h = go (ltb at (length l)) refl
   where

@@ -1,5 +1,5 @@
 -- What document 02 (T-01) promises of the text of a box, in its order and words, each as one theorem with all that it asks in its own signature. Each is a law of the
--- modules beside this one. Assumes nothing.
+-- modules beside this one, or of the crates bounds and bbox_text. Assumes nothing.
 use mathlib.Core.Path.{_≡_, refl, sym, ap, _∙_, subst}
 use mathlib.Core.Bool.{Bool, true, false, cond}
 use mathlib.Core.List.{List, [], _∷_}
@@ -12,26 +12,26 @@ use lib.ListN.{length}
 use lib.IntN.{ℤ, pos, negℤ, natAbs}
 use lib.Signed.{ltZ}
 use Rattle.consts.specs.Refusal.{number, accepted, noRoom, badText, badBox}
-use Rattle.lists.specs.Lists.{All}
+use Rattle.entries.specs.Lists.{All}
 use Rattle.text.specs.declared.text.Written.{Written}
 use Rattle.text.specs.Answers.{refusedWith, wrote, Stands}
-use Rattle.bbox.specs.declared.bounds.Bounds.{Bounds}
+use Rattle.bounds.specs.declared.bounds.Bounds.{Bounds}
 use Rattle.bbox.specs.declared.reader.Answer.{Answer}
 use Rattle.bbox.specs.declared.reader.Four.the-variants.{Numbers}
-use Rattle.bbox.specs.Grammar.{Number, Array}
-use Rattle.bbox.specs.Bounds.{HALF, inLimits, isWestmost, isEastmost, wholeCircle, seamRead, placed, givable}
+use Rattle.bbox_text.specs.Grammar.{Number, Array}
+use Rattle.bounds.specs.Bounds.{HALF, inLimits, isWestmost, isEastmost, wholeCircle, seamRead, placed, givable}
 use Rattle.bbox.specs.Reading.{fourOf, zerosUnder, readOf}
-use Rattle.bbox.specs.Text.{numberText, textOf, wroteBox, leftBox}
+use Rattle.bbox_text.specs.Text.{numberText, textOf, wroteBox, leftBox}
 use Rattle.bbox.proofs.Exactly as exactly
-use Rattle.bbox.proofs.Boxes as boxes
-use Rattle.bbox.proofs.Boxes.{InLimits}
+use Rattle.bounds.proofs.Boxes as boxes
+use Rattle.bounds.proofs.Boxes.{InLimits}
 use Rattle.bbox.proofs.Given as given
-use Rattle.bbox.proofs.Written as written
-use Rattle.bbox.proofs.Fewest as fewest
-use Rattle.bbox.proofs.Spaces as spaces
-use Rattle.bbox.proofs.Room as room
+use Rattle.bbox_text.proofs.Written as written
+use Rattle.bbox_text.proofs.Fewest as fewest
+use Rattle.bbox_text.proofs.Spaces as spaces
+use Rattle.bbox_text.proofs.Room as room
 use Rattle.bbox.proofs.Round as round
-use Rattle.bbox.proofs.Answers as answers
+use Rattle.bbox_text.proofs.Answers as answers
 
 -- ---- "a reader .. of that four-number array: optional minus, one to three digits without a needless leading zero, optional point with one to seven digits, no
 -- exponent, JSON spaces when reading": the texts of the grammar, with their four numbers, and no other text

@@ -1,21 +1,21 @@
--- Reading what was written gives the same box, and nothing shorter reads as that box. By the grammar: the written text is an array of it (Written.antt),
--- the reader accepts every array with its meaning (Exactly.antt), and no array of it is shorter (Fewest.antt). Assumes nothing.
+-- Reading what was written gives the same box, and nothing shorter reads as that box. By the grammar: the written text is an array of it (bbox_text,
+-- Written.antt), the reader accepts every array with its meaning (Exactly.antt), and no array of it is shorter (bbox_text, Fewest.antt). Assumes nothing.
 use mathlib.Core.Path.{_≡_, sym, ap, _∙_, subst}
 use mathlib.Core.Bool.{true}
 use mathlib.Core.List.{List}
 use Prim.Native.Nat.{ℕ, _≤_}
 use native.Mathlib.Omega.{arith}
 use lib.ListN.{length}
-use Rattle.bbox.specs.declared.bounds.Bounds.{Bounds}
+use Rattle.bounds.specs.declared.bounds.Bounds.{Bounds}
 use Rattle.bbox.specs.declared.reader.Answer.{Answer}
-use Rattle.bbox.specs.Bounds.{givable}
+use Rattle.bounds.specs.Bounds.{givable}
 use Rattle.bbox.specs.Reading.{readOf}
-use Rattle.bbox.specs.Text.{textOf}
-use Rattle.bbox.proofs.Boxes.{given-limits, given-settled, settled-stays}
+use Rattle.bbox_text.specs.Text.{textOf}
+use Rattle.bounds.proofs.Boxes.{given-limits, given-settled, settled-stays}
 use Rattle.bbox.proofs.Exactly.{read-array}
 use Rattle.bbox.proofs.Given.{Accepted, accepted-is}
-use Rattle.bbox.proofs.Written.{array-written}
-use Rattle.bbox.proofs.Fewest.{fewest-array, placed-short}
+use Rattle.bbox_text.proofs.Written.{array-written}
+use Rattle.bbox_text.proofs.Fewest.{fewest-array, placed-short}
 
 -- a box as an accepted reading
 abbrev accepted : Bounds → Answer

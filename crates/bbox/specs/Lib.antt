@@ -1,5 +1,1 @@
-pub mod Bounds
-pub mod Grammar
 pub mod Reading
-pub mod Text
-pub mod Growth

@@ -1,6 +1,6 @@
 -- How a bbox array is read: from one position of the text to the next, a byte past the end being 0, which is no part of the grammar. Digits are taken as far
 -- as they are allowed, so that one digit too many, or a digit after a leading zero, stands where a mark must. Definitions only; that just the texts of
--- specs/Grammar.antt are accepted, with their meaning, is in proofs/Exactly.antt.
+-- the grammar (the crate bbox_text, specs/Grammar.antt) are accepted, with their meaning, is in proofs/Exactly.antt.
 use mathlib.Core.Bool.{Bool, true, false, cond}
 use mathlib.Core.List.{List}
 use Prim.Native.Nat.{ℕ, zero, suc, _+_, _-_, _*_}
@@ -14,8 +14,8 @@ use Rattle.bbox.specs.declared.number.Reading.the-variants.{Got, Bad}
 use Rattle.bbox.specs.declared.reader.Answer.{Answer}
 use Rattle.bbox.specs.declared.reader.Four.{Four}
 use Rattle.bbox.specs.declared.reader.Four.the-variants.{Numbers, Not}
-use Rattle.bbox.specs.Bounds.{inLimits, placed}
-use Rattle.bbox.specs.Grammar.{isDigit, isSpace, signed}
+use Rattle.bounds.specs.Bounds.{inLimits, placed}
+use Rattle.bbox_text.specs.Grammar.{isDigit, isSpace, signed}
 
 -- ---- a number
 -- one turn of a run of digits: a digit is taken, and the position moves on; where there is none, a padded run gains a zero

@@ -4,7 +4,7 @@ ghost use mathlib.Core.Path.{_≡_};
 ghost use mathlib.Core.Bool.{true};
 ghost use Prim.Native.Nat.{_+_, _*_, _≤_, _<_};
 ghost use lib.ListN.{getD, length};
-ghost use Rattle.bbox.specs.Grammar.{isDigit};
+ghost use Rattle.bbox_text.specs.Grammar.{isDigit};
 ghost use Rattle.bbox.specs.Reading.{turnOf, wholeOf, turnsOf, gotOf, pointOf, magnitudeOf, numberOf};
 
 // Digits read so far: their value, and the position after them.

@@ -1,16 +1,16 @@
 // Reads a bbox array from a lent text: RFC 7946's four numbers, between JSON's spaces.
-use crate::bounds::Bounds;
-use crate::bounds::is_in_limits;
-use crate::bounds::place;
 use crate::number::Reading;
 use crate::number::byte;
 use crate::number::number;
+use bounds::Bounds;
+use bounds::is_in_limits;
+use bounds::place;
 use consts::ACCEPTED;
 use consts::BAD_BOX;
 use consts::BAD_TEXT;
 ghost use mathlib.Core.Path.{_≡_};
 ghost use Prim.Native.Nat.{_<_};
-ghost use Rattle.bbox.specs.Grammar.{isSpace};
+ghost use Rattle.bbox_text.specs.Grammar.{isSpace};
 ghost use Rattle.bbox.specs.Reading.{spacesOf, elementOf, fourOf, zerosUnder, readOf};
 
 // What reading gives: 0 and the box, or a refusal and four zeros.

@@ -1,4 +1,4 @@
--- What goes out reads back as the boxes that went out: no byte of a box's text is a newline (bbox), so each line ends where its text does, and a
+-- What goes out reads back as the boxes that went out: no byte of a box's text is a newline (bbox_text), so each line ends where its text does, and a
 -- text reads back as its box (bbox). So it is with every input that is written item by item (lists, Written.antt). Assumes nothing.
 use mathlib.Core.Path.{_≡_, refl, ap, _∙_}
 use mathlib.Core.Bool.{false}
@@ -8,14 +8,14 @@ use native.Mathlib.Omega.{arith}
 use borrow.Author.Tests.{ne-eqb}
 use lib.Dec.{eqb}
 use lib.ListN.{length, length-append}
-use Rattle.lists.specs.Inputs.{Items}
-use Rattle.lists.proofs.Written.{Reads, each, written}
-use Rattle.lists.specs.Lists.{All}
-use Rattle.bbox.specs.declared.bounds.Bounds.{Bounds}
+use Rattle.entries.specs.Inputs.{Items}
+use Rattle.entries.proofs.Written.{Reads, each, written}
+use Rattle.entries.specs.Lists.{All}
+use Rattle.bounds.specs.declared.bounds.Bounds.{Bounds}
 use Rattle.bbox.specs.declared.reader.Answer.{Answer}
 use Rattle.bbox.specs.Reading.{readOf}
-use Rattle.bbox.specs.Text.{textOf}
-use Rattle.bbox.proofs.Spaces.{Over, text-over}
+use Rattle.bbox_text.specs.Text.{textOf}
+use Rattle.bbox_text.proofs.Spaces.{Over, text-over}
 use Rattle.bbox.proofs.Round.{round-trip}
 use Rattle.box_lines.specs.Lines.{lineOf, afterLine, Boxes, LINES, toLines, linesOf}
 use Rattle.box_lines.specs.Answers.{Given, boxText, boxLine, boxLines}

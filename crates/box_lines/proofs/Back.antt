@@ -12,11 +12,11 @@ use Rattle.order.proofs.Facts.{eq-refl}
 use Rattle.consts.specs.Reading.{plain}
 use Rattle.consts.proofs.Readings.{plain-same}
 use Rattle.s2.specs.declared.rect.Rect.{Rect}
-use Rattle.lists.specs.Lists.{All, Mem, first, later}
-use Rattle.lists.proofs.Entries.{all-at, no-mem}
+use Rattle.entries.specs.Lists.{All, Mem, first, later}
+use Rattle.entries.proofs.Entries.{all-at, no-mem}
 use Rattle.region.specs.Answers.{piecesOf}
-use Rattle.bbox.specs.declared.bounds.Bounds.{Bounds}
-use Rattle.bbox.specs.Bounds.{HALF, givable, inLimits, settled, wholeCircle, within, isWestmost, isEastmost}
+use Rattle.bounds.specs.declared.bounds.Bounds.{Bounds}
+use Rattle.bounds.specs.Bounds.{HALF, givable, inLimits, settled, wholeCircle, within, isWestmost, isEastmost}
 use Rattle.degrees.specs.Degrees.{radians, rectOf}
 use Rattle.degrees.proofs.Rises.{radians-num}
 use Rattle.degrees.proofs.Boxes.{parts, longitude-size, latitude-size, no-minus-zero}

@@ -10,16 +10,16 @@ use lib.ListN.{length}
 use Rattle.s2.specs.declared.rect.Rect.{Rect}
 use Rattle.s2.specs.Zone.{isEmpty}
 use Rattle.s2.specs.Places.{Valid}
-use Rattle.lists.specs.Lists.{All, Mem, first, later}
+use Rattle.entries.specs.Lists.{All, Mem, first, later}
 use Rattle.lists.specs.Rects.{asReadAll}
-use Rattle.lists.proofs.Entries.{no-mem}
+use Rattle.entries.proofs.Entries.{no-mem}
 use Rattle.region.specs.CommonRegion.{CommonRegion}
 use Rattle.region.specs.Region.{region}
 use Rattle.region.specs.Answers.{piecesOf}
 use Rattle.region.proofs.Listed.{listed-is}
 use Rattle.region.proofs.Unique.{unique}
 use Rattle.region.proofs.Laws as laws
-use Rattle.bbox.specs.declared.bounds.Bounds.{Bounds}
+use Rattle.bounds.specs.declared.bounds.Bounds.{Bounds}
 use Rattle.degrees.specs.Degrees.{rectOf}
 use Rattle.degrees.proofs.Boxes.{accepted-is, same-box}
 use Rattle.box_lines.specs.Answers.{Given, rects, wholes, commonBoxes}

@@ -14,14 +14,14 @@ use Rattle.s1.specs.Places.{holds}
 use Rattle.s1.proofs.Ends.{cond-is}
 use Rattle.s2.specs.declared.rect.Rect.{Rect}
 use Rattle.s2.specs.Zone.{NORTH, SOUTH, LATITUDES}
-use Rattle.lists.specs.Lists.{All, Mem, first, later}
+use Rattle.entries.specs.Lists.{All, Mem, first, later}
 use Rattle.lists.specs.Rects.{asReadAll}
 use Rattle.arcs.proofs.Pieces.{all-insert}
 use Rattle.arcs.specs.Clipping.{before, sooner, cut, endAt, clip, whole, step, steps, common}
 use Rattle.arcs.specs.CommonArcs.{someHolds}
 use Rattle.region.specs.Region.{bandFrom, band, lngs, across, region}
 use Rattle.region.specs.Answers.{piecesOf}
-use Rattle.bbox.specs.declared.bounds.Bounds.{Bounds}
+use Rattle.bounds.specs.declared.bounds.Bounds.{Bounds}
 use Rattle.degrees.specs.Degrees.{rectOf}
 use Rattle.degrees.proofs.Angles as angles
 use Rattle.box_lines.specs.Answers.{Given, rects, GLOBE, wholes, inRadians}

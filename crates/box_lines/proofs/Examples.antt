@@ -14,7 +14,7 @@ use Rattle.arcs.specs.Clipping.{before, sooner, insert, cut, endAt, clip, whole
 use Rattle.arcs.specs.CommonArcs.{someHolds}
 use Rattle.region.specs.Region.{bandFrom, lngs, across, region}
 use Rattle.region.specs.Answers.{piecesOf}
-use Rattle.bbox.specs.declared.bounds.Bounds.{Bounds}
+use Rattle.bounds.specs.declared.bounds.Bounds.{Bounds}
 use Rattle.degrees.specs.Degrees.{fromDegrees, degrees, radians}
 use Rattle.box_lines.specs.Answers.{wholes, inRadians, wholeOf, boxOf, boxesOf, commonBoxes}
 

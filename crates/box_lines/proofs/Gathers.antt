@@ -8,7 +8,7 @@ use lib.ListN.{length, take}
 use lib.IntN.{ℤ}
 use Rattle.consts.specs.Refusal.{number, badList, badText}
 use Rattle.text.specs.Answers.{wrote, left, wroteRefusal, leftRefusal, wroteRefusalAt, leftRefusalAt}
-use Rattle.bbox.specs.declared.bounds.Bounds.{Bounds}
+use Rattle.bounds.specs.declared.bounds.Bounds.{Bounds}
 use Rattle.box_lines.specs.declared.gather.Gathered.{Gathered}
 use Rattle.box_lines.specs.declared.gather.Gathered.the-variants as gathered
 use Rattle.box_lines.specs.Lines.{NoLine, Boxes, Fault, TooMany, linesOf}

@@ -17,8 +17,8 @@ use Rattle.s1.specs.Circle as circle
 use Rattle.s2.specs.Zone.{NORTH, SOUTH, latitude, isValid, isEmpty}
 use Rattle.s2.specs.Places.{Valid}
 use Rattle.s2.proofs.Valid.{empty-both}
-use Rattle.bbox.specs.declared.bounds.Bounds.{Bounds}
-use Rattle.bbox.specs.Bounds.{HALF, QUARTER, within, inLimits, isWestmost, isEastmost, wholeCircle, settled, givable}
+use Rattle.bounds.specs.declared.bounds.Bounds.{Bounds}
+use Rattle.bounds.specs.Bounds.{HALF, QUARTER, within, inLimits, isWestmost, isEastmost, wholeCircle, settled, givable}
 use Rattle.degrees.specs.Degrees.{radians, rectOf}
 use Rattle.degrees.proofs.Angles as angles
 use Rattle.degrees.proofs.Rises.{radians-num, rises, keeps, one-to-one}

@@ -10,11 +10,11 @@ use borrow.Author.Tests.{eq-eqb, ne-eqb}
 use lib.ListN.{length, take, drop, length-append, length-drop, drop-of-length-le}
 use lib.Seq.{sets}
 use lib.IntN.{ℤ}
-use Rattle.lists.specs.Inputs as inputs
-use Rattle.lists.proofs.Inputs as reading
+use Rattle.entries.specs.Inputs as inputs
+use Rattle.entries.proofs.Inputs as reading
 use Rattle.lists.proofs.RectLists.{sets-take}
-use Rattle.lists.specs.Lists.{All}
-use Rattle.bbox.specs.declared.bounds.Bounds.{Bounds}
+use Rattle.entries.specs.Lists.{All}
+use Rattle.bounds.specs.declared.bounds.Bounds.{Bounds}
 use Rattle.bbox.specs.declared.reader.Answer.{Answer}
 use Rattle.bbox.specs.Reading.{readOf}
 use Rattle.bbox.proofs.Given.{reads-given}

@@ -10,14 +10,14 @@ use native.Mathlib.Omega.{arith}
 use borrow.Author.Tests.{eqb-true, eqb-false}
 use lib.Dec.{eqb}
 use lib.ListN.{length}
-use Rattle.lists.specs.Inputs as inputs
-use Rattle.lists.specs.Inputs.{Input, readFrom, inputOf}
-use Rattle.lists.proofs.Inputs as reading
+use Rattle.entries.specs.Inputs as inputs
+use Rattle.entries.specs.Inputs.{Input, readFrom, inputOf}
+use Rattle.entries.proofs.Inputs as reading
 use Rattle.region.specs.CommonRegion.{CommonRegion}
 use Rattle.consts.specs.Refusal.{number, badList, badText}
-use Rattle.lists.specs.Lists.{All}
+use Rattle.entries.specs.Lists.{All}
 use Rattle.text.specs.Text.{refusedText}
-use Rattle.bbox.specs.declared.bounds.Bounds.{Bounds}
+use Rattle.bounds.specs.declared.bounds.Bounds.{Bounds}
 use Rattle.bbox.specs.Reading.{readOf}
 use Rattle.bbox.proofs.Given.{reads-given}
 use Rattle.box_lines.specs.Lines.{lineOf, afterLine, Lines, NoLine, Boxes, Fault, TooMany, LINES, toLines, linesOf}

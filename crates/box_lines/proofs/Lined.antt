@@ -12,14 +12,14 @@ use lib.ListN.{length, take, drop, set, getD, length-append, length-drop, take-a
 use lib.Seq.{drop-cons, drop-drop, drop-append-le, set-append-seam, length-take-le, take-append-seam}
 use Rattle.text.specs.declared.text.Written.{Written}
 use Rattle.text.specs.Answers.{wrote, left}
-use Rattle.bbox.specs.declared.bounds.Bounds.{Bounds}
-use Rattle.bbox.specs.Bounds.{givable}
-use Rattle.bbox.specs.Text.{textOf, wroteBox, leftBox}
-use Rattle.bbox.proofs.Room.{longest}
+use Rattle.bounds.specs.declared.bounds.Bounds.{Bounds}
+use Rattle.bounds.specs.Bounds.{givable}
+use Rattle.bbox_text.specs.Text.{textOf, wroteBox, leftBox}
+use Rattle.bbox_text.proofs.Room.{longest}
 use lib.IntN.{ℤ}
 use lib.Ieee.{Float}
 use Rattle.s2.specs.declared.rect.Rect.{Rect}
-use Rattle.lists.specs.Inputs.{inTurn}
+use Rattle.entries.specs.Inputs.{inTurn}
 use Rattle.lists.specs.Rects.{rectsOf, rectAt}
 use Rattle.lists.proofs.RectLists.{four}
 use Rattle.box_lines.specs.Answers.{boxOf, boxesOf, boxText, boxLine, boxLines}

@@ -11,13 +11,13 @@ use lib.IntN.{ℤ}
 use lib.Ieee.{Float}
 use Rattle.s2.specs.declared.rect.Rect.{Rect}
 use Rattle.s2.specs.Places.{Valid}
-use Rattle.lists.specs.Lists.{All, whole}
+use Rattle.entries.specs.Lists.{All, whole}
 use Rattle.lists.specs.Rects.{rectsOf}
 use Rattle.lists.proofs.RectLists.{rects-numbers}
 use Rattle.region.specs.declared.region.Pieces.{Pieces}
 use Rattle.region.specs.Answers.{piecesOf, Promised}
 use Rattle.region.proofs.Listings.{IsListed, listing as region-listing}
-use Rattle.bbox.specs.declared.bounds.Bounds.{Bounds}
+use Rattle.bounds.specs.declared.bounds.Bounds.{Bounds}
 use Rattle.box_lines.specs.Answers.{GLOBE, wholes, inRadians, boxesOf, boxLines, commonBoxes}
 use Rattle.box_lines.specs.Inside.{Holds, Listed, listedText}
 use Rattle.box_lines.proofs.Filled.{length-radians}

@@ -7,11 +7,11 @@ use lib.ListN.{length}
 use lib.IntN.{ℤ}
 use lib.Ieee.{Float}
 use Rattle.consts.specs.Refusal.{number, badText}
-use Rattle.lists.specs.Lists.{All, Mem}
+use Rattle.entries.specs.Lists.{All, Mem}
 use Rattle.text.specs.Text.{refusedText}
 use Rattle.region.specs.CommonRegion.{CommonRegion}
 use Rattle.region.specs.Answers.{piecesOf}
-use Rattle.bbox.specs.declared.bounds.Bounds.{Bounds}
+use Rattle.bounds.specs.declared.bounds.Bounds.{Bounds}
 use Rattle.box_lines.specs.Lines.{NoLine, Boxes, Fault, TooMany, linesOf}
 use Rattle.box_lines.specs.Answers.{Given, rects, wholes, inRadians, wholeOf, commonBoxes, boxLines, answerText}
 use Rattle.box_lines.proofs.Back as back

@@ -15,11 +15,12 @@ use Rattle.s2.specs.declared.rect.Rect.{Rect}
 use Rattle.s2.specs.declared.reading.One.{One}
 use Rattle.s2.specs.Places.{Valid}
 use Rattle.s2.specs.Reading.{asRead, readOne}
-use Rattle.lists.specs.Lists.{All, whole, wholeLength}
+use Rattle.entries.specs.Lists.{All, whole, wholeLength}
 use Rattle.lists.specs.Rects.{rectsOf, asReadAll}
-use Rattle.lists.specs.Refused.{ofRect, firstRefused, firstNumber}
-use Rattle.lists.proofs.Refused.{passed}
-use Rattle.bbox.specs.declared.bounds.Bounds.{Bounds}
+use Rattle.entries.specs.First.{firstNumber}
+use Rattle.lists.specs.Refused.{ofRect, firstRefused}
+use Rattle.entries.proofs.First.{passed}
+use Rattle.bounds.specs.declared.bounds.Bounds.{Bounds}
 use Rattle.degrees.specs.Degrees.{rectOf, toRect}
 use Rattle.degrees.proofs.Boxes.{accepted-is, is-valid, read-back}
 use Rattle.box_lines.specs.Answers.{Given, rects, wholes, inRadians}

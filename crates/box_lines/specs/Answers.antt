@@ -9,12 +9,12 @@ use lib.IntN.{ℤ, pos, negℤ}
 use lib.Ieee.{Float, eq}
 use Rattle.consts.specs.Refusal.{number, badList, badText}
 use Rattle.s2.specs.declared.rect.Rect.{Rect}
-use Rattle.lists.specs.Inputs.{inTurn}
+use Rattle.entries.specs.Inputs.{inTurn}
 use Rattle.region.specs.Answers.{piecesOf}
 use Rattle.text.specs.Text.{refusedText, refusedAtText}
-use Rattle.bbox.specs.declared.bounds.Bounds.{Bounds}
-use Rattle.bbox.specs.Bounds.{HALF, QUARTER, givable}
-use Rattle.bbox.specs.Text.{textOf}
+use Rattle.bounds.specs.declared.bounds.Bounds.{Bounds}
+use Rattle.bounds.specs.Bounds.{HALF, QUARTER, givable}
+use Rattle.bbox_text.specs.Text.{textOf}
 use Rattle.degrees.specs.Degrees.{radians, rectOf}
 use Rattle.box_lines.specs.Lines.{Lines, NoLine, Boxes, Fault, TooMany, linesOf}
 

@@ -4,8 +4,8 @@ use mathlib.Core.List.{List, _∷_}
 use Prim.Native.Nat.{ℕ, _+_, _*_, _≤_, _<_}
 use lib.ListN.{length, take, drop}
 use lib.IntN.{ℤ}
-use Rattle.lists.specs.Lists.{All}
-use Rattle.bbox.specs.declared.bounds.Bounds.{Bounds}
+use Rattle.entries.specs.Lists.{All}
+use Rattle.bounds.specs.declared.bounds.Bounds.{Bounds}
 use Rattle.region.specs.Answers.{piecesOf}
 use Rattle.box_lines.specs.declared.gather.Gathered.{Gathered}
 use Rattle.box_lines.specs.declared.gather.Gathered.the-variants as gathered

@@ -5,9 +5,9 @@ use mathlib.Core.List.{List, [], _∷_}
 use Prim.Native.Nat.{ℕ, _+_}
 use lib.Dec.{eqb}
 use Rattle.consts.specs.Refusal.{number, badList}
-use Rattle.lists.specs.Inputs as inputs
-use Rattle.lists.specs.Inputs.{Form, Input, inputOf}
-use Rattle.bbox.specs.declared.bounds.Bounds.{Bounds}
+use Rattle.entries.specs.Inputs as inputs
+use Rattle.entries.specs.Inputs.{Form, Input, inputOf}
+use Rattle.bounds.specs.declared.bounds.Bounds.{Bounds}
 use Rattle.bbox.specs.Reading.{readOf}
 
 -- the first line, without the newline (10) that ends it, and what follows; the last line may lack its newline

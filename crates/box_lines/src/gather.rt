@@ -1,7 +1,7 @@
 // The lines of a text from the first to the last, the whole numbers of their boxes as one list: south,
 // north, west, east of each, after those of the whole globe. The first fault decides.
-use bbox::Bounds;
 use bbox::read;
+use bounds::Bounds;
 use consts::ACCEPTED;
 ghost use mathlib.Core.Path.{_≡_};
 ghost use mathlib.Core.List.{[], _∷_};

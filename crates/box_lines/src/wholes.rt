@@ -1,6 +1,6 @@
 // Whole ten-millionths of a degree to radians, and back: the radians of each whole number stand at its
 // place, so that an edge in radians is found by looking for it, and nothing is rounded on the way back.
-use bbox::Bounds;
+use bounds::Bounds;
 use degrees::radians_of;
 ghost use mathlib.Core.Path.{_≡_};
 ghost use mathlib.Core.List.{_++_};

@@ -9,20 +9,21 @@ use lib.ListN.{length}
 use lib.Ieee.{Float}
 use Rattle.consts.specs.Refusal.{number, accepted, noRoom, badBox}
 use Rattle.text.specs.declared.text.Written.{Written}
-use Rattle.bbox.specs.declared.bounds.Bounds.{Bounds}
-use Rattle.bbox.specs.Bounds.{givable}
-use Rattle.bbox.specs.Text.{textOf, wroteBox, leftBox}
-use Rattle.bbox.proofs.Answers.{enough}
+use Rattle.bounds.specs.declared.bounds.Bounds.{Bounds}
+use Rattle.bounds.specs.Bounds.{givable}
+use Rattle.bbox_text.specs.Text.{textOf, wroteBox, leftBox}
+use Rattle.bbox_text.proofs.Answers.{enough}
 use Rattle.s2.specs.declared.latlng.LatLng.{LatLng}
 use Rattle.s2.specs.declared.rect.Answer.{Answer}
 use Rattle.s2.specs.Answers.{add}
 use Rattle.lists.specs.Rects.{numbersOf}
 use Rattle.growth.specs.Growth.{grow}
-use Rattle.growth.specs.Scan.{enlarge, enlargeAll}
-use Rattle.capi.specs.declared.lent.CRefusal.{CRefusal}
-use Rattle.capi.specs.Records.{zeros, boxText}
-use Rattle.capi.specs.Boxes.{boxOf, boxLeft, Stored}
-use Rattle.capi.proofs.Laws.{keeps, left-given}
+use Rattle.scan.specs.Scan.{enlarge, enlargeAll}
+use Rattle.c_records.specs.declared.boxes.CRefusal.{CRefusal}
+use Rattle.c_records.specs.Texts.{zeros, boxText}
+use Rattle.c_records.specs.Boxes.{boxOf, boxLeft, Stored}
+use Rattle.c_records.proofs.Laws.{left-given}
+use Rattle.capi.proofs.Laws.{keeps}
 
 -- ---- the running box of the scan worker: l before the call, l' after it, four numbers by its type; n is what is answered
 -- a refusal leaves every number, whatever growth answered
@@ -30,7 +31,7 @@ pub refused-stays : (l : List Float) (a : Answer) (n : CRefusal) (l' : List Floa
 unfolding boxLeft
 refused-stays l a n l' s h = s .leaves ∙ simp (ne-eqb (a .refusal) 0 (λ e. h (s .answers ∙ e)))
 
--- a point leaves the box that the scan worker of the crate growth leaves, and answers its number; so does a list
+-- a point leaves the box that the scan worker of the crate scan leaves, and answers its number; so does a list
 pub as-enlarged : (l : List Float) (p : LatLng) (n : CRefusal) (l' : List Float) → length l ≡ 4 → Stored l (add (boxOf l) p) n l'
     → (n .refusal ≡ enlarge (boxOf l) p .refusal) × (l' ≡ numbersOf (enlarge (boxOf l) p .value ∷ []))
 unfolding enlarge

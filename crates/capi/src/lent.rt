@@ -2,15 +2,13 @@
 // the scan worker. A list is a pointer and a count of numbers: four a rectangle, lat.lo, lat.hi, lng.lo,
 // lng.hi; two a point, latitude, longitude.
 //
-// The running box is lent as its four numbers in the same order, which is what a rectangle is in memory.
-// The worker takes them up, has the rectangle grown by value, and stores the four numbers of the answer
-// only under 0.
-use consts::ACCEPTED;
+// The running box is lent as its four numbers in the same order (the crate `c_records`).
+use c_records::CRefusal;
+use c_records::box_of;
+use c_records::keep;
 use growth::grow;
-use r1::interval::Interval as Line;
 use region::Pieces;
 use region::common_region;
-use s1::interval::Interval as Circle;
 use s2::latlng::LatLng;
 use s2::rect::Answer;
 use s2::rect::Rect;
@@ -18,14 +16,7 @@ ghost use mathlib.Core.Path.{_≡_};
 ghost use Rattle.s2.specs.Answers.{add};
 ghost use Rattle.region.specs.Answers.{Promised};
 ghost use Rattle.growth.specs.Growth.{grow};
-ghost use Rattle.capi.specs.Boxes.{boxOf, Stored};
-
-// The refusal number alone: the worker's answer lies in the box. In a record, as every answer of the
-// library is.
-#[repr(C)]
-pub struct CRefusal {
-    pub refusal: u8,
-}
+ghost use Rattle.c_records.specs.Boxes.{boxOf, Stored};
 
 // The common region of the rectangles in `list`, to the start of `out`.
 #[no_mangle]
@@ -41,26 +32,6 @@ pub extern "C" fn sjurnabel_grow(a: Rect, points: &[f64]) -> Answer
     ensures { λ r. ⌜ r ≡ grow a (now (points .entry)) ⌝ }
 {
     grow(a, points)
-}
-
-// The rectangle of four numbers.
-fn box_of(b: &[f64; 4]) -> Rect
-    ensures { λ r. ⌜ r ≡ boxOf (now (b .entry)) ⌝ }
-{
-    let lat = Line { lo: b[0], hi: b[1] };
-    let lng = Circle { lo: b[2], hi: b[3] };
-    Rect { lat, lng }
-}
-
-// What growth answers goes into the box, under 0 alone.
-fn keep(b: &mut [f64; 4], a: Answer) -> CRefusal
-    ensures { λ n. ⌜ Stored (now (b .entry)) a n (now (b .exit)) ⌝ }
-{
-    if a.refusal == ACCEPTED {
-        let r = a.value;
-        *b = [r.lat.lo, r.lat.hi, r.lng.lo, r.lng.hi];
-    }
-    CRefusal { refusal: a.refusal }
 }
 
 // Enlarges the running box by a point.

@@ -5,7 +5,7 @@ use lib.IntN.{pos, negℤ}
 use lib.Ieee.{binary64, ofBits, ofInt, mul, div}
 use Rattle.consts.specs.Answer.{ZERO}
 use Rattle.consts.specs.Constants.{PI, NEG-PI}
-use Rattle.bbox.specs.Bounds.{HALF, QUARTER}
+use Rattle.bounds.specs.Bounds.{HALF, QUARTER}
 use Rattle.s2.specs.Zone.{NORTH, SOUTH}
 use Rattle.degrees.specs.Degrees.{PER-DEGREE, TEN-MILLION, fromDegrees, degrees, radians}
 

@@ -17,9 +17,9 @@ use Rattle.consts.specs.Answer.{ZERO}
 use Rattle.consts.specs.Constants.{PI, NEG-PI}
 use Rattle.consts.specs.Reading.{plain}
 use Rattle.consts.specs.Refusal.{number, accepted, badBox}
-use Rattle.bbox.specs.declared.bounds.Bounds.{Bounds}
-use Rattle.bbox.specs.Bounds.{HALF, QUARTER, within, inLimits, isWestmost, isEastmost, wholeCircle, settled, givable}
-use Rattle.bbox.proofs.Boxes.{within-size}
+use Rattle.bounds.specs.declared.bounds.Bounds.{Bounds}
+use Rattle.bounds.specs.Bounds.{HALF, QUARTER, within, inLimits, isWestmost, isEastmost, wholeCircle, settled, givable}
+use Rattle.bounds.proofs.Boxes.{within-size}
 use Rattle.r1.specs.Line as line
 use Rattle.s1.specs.Circle as circle
 use Rattle.s1.specs.Places.{Valid as LngValid}

@@ -9,7 +9,7 @@ use lib.Pow.{pow-pos}
 use lib.Dec.{lit≤, lit<}
 use lib.Ieee.{binary64, low, size}
 use lib.Ieee.Scale.{grid, overflow}
-use Rattle.bbox.specs.Bounds.{HALF}
+use Rattle.bounds.specs.Bounds.{HALF}
 use Rattle.degrees.proofs.Relative.{FEWER, SPLIT, MORE, Near, grid-near, near-units}
 
 -- ---- the numbers

@@ -14,8 +14,8 @@ use Rattle.s2.specs.Zone.{NORTH, SOUTH, latitude, isEmpty}
 use Rattle.s2.specs.Places.{Valid}
 use Rattle.s2.specs.Reading.{readOne}
 use Rattle.s2.specs.Answers.{rectAnswer, emptyUnder}
-use Rattle.bbox.specs.declared.bounds.Bounds.{Bounds}
-use Rattle.bbox.specs.Bounds.{HALF, QUARTER, wholeCircle, givable}
+use Rattle.bounds.specs.declared.bounds.Bounds.{Bounds}
+use Rattle.bounds.specs.Bounds.{HALF, QUARTER, wholeCircle, givable}
 use Rattle.degrees.specs.Degrees.{fromDegrees, degrees, radians, rectOf, toRect}
 use Rattle.degrees.proofs.Angles as angles
 use Rattle.degrees.proofs.Rises as rises

@@ -20,7 +20,7 @@ use borrow.Author.Tests.{ltb-true, ltb-false, eqb-true, lt-ltb}
 use Rattle.order.specs.Key.{mag, big, key, K, Num}
 use Rattle.order.proofs.Facts.{le-refl, lt-le}
 use Rattle.order.proofs.Keys.{scaled, low-enough, below-big, lt-key, eq-key}
-use Rattle.bbox.specs.Bounds.{HALF}
+use Rattle.bounds.specs.Bounds.{HALF}
 use Rattle.degrees.specs.Degrees.{TEN-MILLION, PER-DEGREE, fromDegrees, degrees, radians}
 use Rattle.degrees.proofs.Heights.{ONE, PARTS, TOP, BOTTOM, steps, height, steps-under, height-under, height-rises}
 

@@ -1,4 +1,4 @@
-// From degrees to radians: a GeoJSON box, held in whole ten-millionths of a degree (crate `bbox`), as
+// From degrees to radians: a GeoJSON box, held in whole ten-millionths of a degree (crate `bounds`), as
 // a rectangle in radians (crate `s2`).
 mod angle;
 mod rect;

@@ -1,7 +1,7 @@
 // A box in whole ten-millionths of a degree as a rectangle in radians.
 use crate::angle::from_degrees;
-use bbox::Bounds;
-use bbox::can_give;
+use bounds::Bounds;
+use bounds::can_give;
 use consts::ACCEPTED;
 use consts::BAD_BOX;
 use r1::interval::Interval as Line;

@@ -1,5 +1,5 @@
--- Worked examples, computed by the definitions: what growth by a list answers and what the scan worker leaves, refusals included. The start of most is the
--- rectangle of the latitudes and the longitudes [0, 1] with its zeros written -0, so that kept bits show. Assumes nothing.
+-- Worked examples, computed by the definitions: what growth by a list answers, refusals included. The start of most is the rectangle of the latitudes and
+-- the longitudes [0, 1] with its zeros written -0, so that kept bits show. Assumes nothing.
 use mathlib.Core.Path.{_≡_, refl}
 use mathlib.Core.List.{[], _∷_}
 use lib.Ieee as Ieee
@@ -13,48 +13,47 @@ use Rattle.s1.specs.Circle.{fastContains, seam, positiveDistance}
 use Rattle.s1.specs.Reading.{onCircle}
 use Rattle.s2.specs.declared.rect.Rect.{Rect}
 use Rattle.s2.specs.Zone as zone
-use Rattle.s2.specs.Zone.{at, box, EMPTY, latitude, isValid, isLatLng}
+use Rattle.s2.specs.Zone.{box, EMPTY, latitude, isValid, isLatLng}
 use Rattle.s2.specs.Reading.{rectInReach, asRead, readOne, readPoint}
 use Rattle.s2.specs.Answers.{rectAnswer, emptyUnder, add}
-use Rattle.lists.specs.Lists.{wholeLength}
+use Rattle.entries.specs.Lists.{wholeLength}
 use Rattle.lists.specs.Points.{pointsOf}
-use Rattle.lists.specs.Refused.{firstNumber}
+use Rattle.entries.specs.First.{firstNumber}
 use Rattle.growth.specs.Growth.{under, grownAll, grownFrom, grownByPoints, grow}
-use Rattle.growth.specs.Scan.{enlarge, enlargeAll, scannedFrom, handedBack, scannedByPoints, scan}
 
 -- numbers by their bits: 0, -0, 0.5, -0.5, 1, 2, 4
-abbrev zero : Float
+abbrev pub zero : Float
 zero = ofBits binary64 0
 
-abbrev minus : Float
+abbrev pub minus : Float
 minus = ofBits binary64 0x8000000000000000
 
-abbrev half : Float
+abbrev pub half : Float
 half = ofBits binary64 0x3FE0000000000000
 
 abbrev west : Float
 west = ofBits binary64 0xBFE0000000000000
 
-abbrev one : Float
+abbrev pub one : Float
 one = ofBits binary64 0x3FF0000000000000
 
-abbrev two : Float
+abbrev pub two : Float
 two = ofBits binary64 0x4000000000000000
 
-abbrev four : Float
+abbrev pub four : Float
 four = ofBits binary64 0x4010000000000000
 
-abbrev square : Float → Float → Rect
+abbrev pub square : Float → Float → Rect
 square a b = box (line.ends a b) (circle.ends a b)
 
-abbrev start : Rect
+abbrev pub start : Rect
 start = square minus one
 
 -- not valid, and out of reach
-abbrev tall : Rect
+abbrev pub tall : Rect
 tall = square minus two
 
-abbrev unknown : Rect
+abbrev pub unknown : Rect
 unknown = square nan one
 
 pub record Examples : Type 0 where
@@ -72,24 +71,9 @@ pub record Examples : Type 0 where
   -- 5 comes before all, and hands back even a start that is not valid
   pub half-point : grow start (one ∷ []) ≡ under 5 start
   pub half-point-first : grow unknown (one ∷ []) ≡ under 5 unknown
-  -- the worker: growth's number, and what is left in the box
-  pub enlarges : enlarge start (at half two) ≡ under 0 (box (line.ends zero one) (circle.ends zero two))
-  pub leaves-bad-point : enlarge start (at one four) ≡ under 3 start
-  pub leaves-bad-box : enlarge tall (at half half) ≡ under 2 tall
-  pub leaves-bad-list : enlargeAll start (half ∷ two ∷ one ∷ four ∷ []) ≡ under 3 start
-  -- points one by one: the bad one is passed over, and its number is kept
-  pub scans : scan start (half ∷ two ∷ one ∷ four ∷ half ∷ half ∷ []) ≡ under 3 (box (line.ends zero one) (circle.ends zero two))
-  -- by bad points alone the start keeps its bits; by no point it is answered as it is read
-  pub scans-bad-points : scan start (one ∷ four ∷ []) ≡ under 3 start
-  pub scans-nothing : scan start [] ≡ rectAnswer (square zero one)
-  -- a start is read before the points, and by no point too; before it comes 5
-  pub scans-unknown : scan unknown [] ≡ emptyUnder 1
-  pub scans-tall : scan tall [] ≡ emptyUnder 2
-  pub scans-unknown-first : scan unknown (one ∷ four ∷ []) ≡ emptyUnder 1
-  pub scans-half-point : scan unknown (one ∷ []) ≡ under 5 unknown
 
 pub examples : Examples
-unfolding grow grownByPoints grownFrom wholeLength pointsOf firstNumber firstRefusal grownAll add enlarge enlargeAll scannedFrom handedBack scannedByPoints scan readOne readPoint asRead rectInReach isValid isLatLng latitude onCircle inReach plain zone.add line.add line.isEmpty circle.add circle.isValid circle.isEmpty fastContains seam positiveDistance ofBits lt le eq Ieee.add Ieee.sub
+unfolding grow grownByPoints grownFrom wholeLength pointsOf firstNumber firstRefusal grownAll add readOne readPoint asRead rectInReach isValid isLatLng latitude onCircle inReach plain zone.add line.add line.isEmpty circle.add circle.isValid circle.isEmpty fastContains seam positiveDistance ofBits lt le eq Ieee.add Ieee.sub
 examples =
     record {
       grows = refl;
@@ -100,15 +84,4 @@ examples =
       tall-start = refl;
       half-point = refl;
       half-point-first = refl;
-      enlarges = refl;
-      leaves-bad-point = refl;
-      leaves-bad-box = refl;
-      leaves-bad-list = refl;
-      scans = refl;
-      scans-bad-points = refl;
-      scans-nothing = refl;
-      scans-unknown = refl;
-      scans-tall = refl;
-      scans-unknown-first = refl;
-      scans-half-point = refl;
     }

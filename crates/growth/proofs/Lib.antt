@@ -1,6 +1,5 @@
 pub mod Turns
 pub mod Held
-pub mod Boxes
 pub mod Laws
 pub mod Examples
 pub mod Promises

@@ -1,6 +1,6 @@
--- What document 01 promises of growth by a list and of the scan worker, in its order and words, each as one theorem with all that it asks in its own signature. Each is
+-- What document 01 promises of growth by a list, in its order and words, each as one theorem with all that it asks in its own signature. Each is
 -- a law of proofs/Laws.antt. The numbers handed in are doubles, as all numbers are that a program hands in (`Doubles`, `DoublePoint`). Assumes nothing.
-use mathlib.Core.Path.{_≡_, ap}
+use mathlib.Core.Path.{_≡_}
 use mathlib.Core.Bool.{true, false}
 use mathlib.Core.List.{List, [], _∷_}
 use mathlib.Core.Logic.{_⊎_, _↔_}
@@ -10,25 +10,21 @@ use lib.Ieee.{Float}
 use Rattle.consts.specs.Refusal.{number, accepted, outOfReach, notValid, badPoint, badList}
 use Rattle.s2.specs.declared.latlng.LatLng.{LatLng}
 use Rattle.s2.specs.declared.rect.Rect.{Rect}
-use Rattle.s2.specs.declared.rect.Answer.{Answer}
 use Rattle.s2.specs.Zone.{at, isValid, isLatLng}
 use Rattle.s2.specs.Reading.{rectInReach, NoMinusRect}
 use Rattle.s2.specs.Answers.{emptyUnder, add}
 use Rattle.s2.specs.Places.{Valid, ValidPoint}
-use Rattle.lists.specs.Lists.{Mem, All, whole}
+use Rattle.entries.specs.Lists.{Mem, All, whole}
 use Rattle.lists.specs.Points.{pointsOf}
 use Rattle.lists.proofs.Promises.{point-list-refused}
 use Rattle.lists.proofs.Doubles.{Doubles, DoublePoint}
 use Rattle.growth.specs.Growth.{under, grow, oneByOne}
-use Rattle.growth.specs.Scan.{enlarge, enlargeAll, scannedFrom, scan}
 use Rattle.growth.proofs.Laws as laws
 use Rattle.growth.proofs.Laws.{Grown}
 
--- ---- "Negative zero coming in is read as zero, and no negative zero is written": by no way of growth, of a rectangle r by a list l or by a point p
-pub no-negative-zero : (r : Rect) (l : List Float) (p : LatLng) → Doubles r → All DoublePoint (pointsOf l) → DoublePoint p
-    → (grow r l .refusal ≡ number accepted → NoMinusRect (grow r l .value)) × (scan r l .refusal ≡ number accepted → NoMinusRect (scan r l .value))
-    × (enlargeAll r l .refusal ≡ number accepted → NoMinusRect (enlargeAll r l .value)) × (enlarge r p .refusal ≡ number accepted → NoMinusRect (enlarge r p .value))
-no-negative-zero r l p d e q = (laws.growth-plain r l d e, (λ h. laws.scan-plain r l d e h .1), laws.worker-plain r l d e, laws.point-plain r p d q)
+-- ---- "Negative zero coming in is read as zero, and no negative zero is written": not by growth of a rectangle r by a list l
+pub no-negative-zero : (r : Rect) (l : List Float) → Doubles r → All DoublePoint (pointsOf l) → grow r l .refusal ≡ number accepted → NoMinusRect (grow r l .value)
+no-negative-zero r l d e h = laws.growth-plain r l d e h
 
 -- ---- the numbers, "given exactly when", and their results
 -- 1, "a rectangle has a number out of reach": the standard empty. The list is looked at first (5)
@@ -69,15 +65,6 @@ accepted-when r l d e = (there, back)
     back : (whole 2 4096 l ≡ true) × Valid r × All ValidPoint (pointsOf l) → grow r l .refusal ≡ number accepted
     back h = laws.accepted-exactly r l d e .1 (record { whole = h .0; start = h .1; points = h .2 })
 
--- ---- "No refusal alters a lent number": the worker's box keeps every bit under each number but 0, and the number is growth's
-pub lent-box-stays : (b : Rect) (p : LatLng) → (enlarge b p .refusal ≡ 0 → ⊥) → enlarge b p .value ≡ b
-unfolding enlarge
-lent-box-stays b p h = ap (λ (a : Answer). a .value) (laws.scan-refused b p h)
-
-pub lent-box-stays-by-list : (b : Rect) (l : List Float) → (enlargeAll b l .refusal ≡ 0 → ⊥) → enlargeAll b l .value ≡ b
-unfolding enlargeAll
-lent-box-stays-by-list b l h = ap (λ (a : Answer). a .value) (laws.scan-list-refused b l h)
-
 -- ---- "Growth by an accepted list equals growth by its points one by one, first to last"
 pub one-by-one : (r : Rect) (l : List Float) → Doubles r → All DoublePoint (pointsOf l) → grow r l .refusal ≡ number accepted → grow r l ≡ oneByOne r (pointsOf l)
 one-by-one r l d e h = laws.one-by-one-accepted r l d e (laws.accepted-exactly r l d e .0 h .whole) h
@@ -89,23 +76,3 @@ by-one-point r a b = laws.one-point r a b
 -- an accepted growth is valid, and holds every place of the start and each of the points
 pub growth-holds : (r : Rect) (l : List Float) → Doubles r → All DoublePoint (pointsOf l) → grow r l .refusal ≡ number accepted → Grown (grow r l .value) r (pointsOf l)
 growth-holds r l d e h = laws.growth-holds r l (laws.accepted-exactly r l d e .0 h)
-
--- ---- "The scan worker keeps one running box, and each point enlarges that same box; the same growth by value comes first"
--- by a point and by a list: growth's number, and under 0 growth's rectangle in the box
-pub worker-grows : (b : Rect) (p : LatLng) → add b p .refusal ≡ number accepted → enlarge b p ≡ add b p
-worker-grows b p h = laws.scan-accepted b p h
-
-pub worker-grows-by-list : (b : Rect) (l : List Float) → grow b l .refusal ≡ number accepted → enlargeAll b l ≡ grow b l
-worker-grows-by-list b l h = laws.scan-list-accepted b l h
-
--- the points of a list one by one through the worker: for every start and every list growth's number and, but for 3, growth's answer
-pub scan-number : (b : Rect) (l : List Float) → Doubles b → All DoublePoint (pointsOf l) → scan b l .refusal ≡ grow b l .refusal
-scan-number b l d e = laws.scan-number b l d e
-
-pub scan-grows : (b : Rect) (l : List Float) → Doubles b → All DoublePoint (pointsOf l) → (grow b l .refusal ≡ number badPoint → ⊥) → scan b l ≡ grow b l
-scan-grows b l d e h = laws.scan-agrees b l d e h
-
--- under 3 the bad points are passed over, and the running box is answered as it is
-pub scan-passes-over : (b : Rect) (l : List Float) → All DoublePoint (pointsOf l) → whole 2 4096 l ≡ true → Valid b → (p : LatLng) → Mem p (pointsOf l) → isLatLng p ≡ false
-    → (scan b l .refusal ≡ number badPoint) × (scan b l ≡ scannedFrom 0 b (pointsOf l))
-scan-passes-over b l e w v p m h = laws.scan-running b l e w v p m h

@@ -15,11 +15,11 @@ use Rattle.s2.specs.declared.reading.Pair.{Pair}
 use Rattle.s2.specs.Zone.{add}
 use Rattle.s2.specs.Reading.{readOne, readPoint}
 use Rattle.s2.specs.Answers.{rectAnswer, emptyUnder}
-use Rattle.lists.specs.Lists.{whole}
+use Rattle.entries.specs.Lists.{whole}
 use Rattle.lists.specs.Points.{pointsOf, pointAt}
-use Rattle.lists.specs.Refused.{firstNumber, firstBad}
+use Rattle.entries.specs.First.{firstNumber}
+use Rattle.lists.specs.Refused.{firstBad}
 use Rattle.lists.proofs.PointLists.{two, none-left}
-use Rattle.growth.specs.Scan.{enlarge, scannedFrom, handedBack, scannedByPoints, scan}
 use Rattle.growth.specs.Growth.{under, grownAll, grownFrom, grownByPoints, grow}
 
 -- the way that a test took
@@ -64,41 +64,3 @@ module _ (r q : Rect) (l : List Float) (i : ℕ) (h : i + 1 < length l) (p : Pai
 pub grow-end : (r q : Rect) (l : List Float) → grownFrom r q (pointsOf (drop (length l) l)) ≡ rectAnswer q
 unfolding grownFrom firstNumber grownAll
 grow-end r q l = rw (none-left l) refl
-
--- ---- the scan: the start's refusal and what is answered of the box, then a turn, then the end
-module _ (b : Rect) (l : List Float) (w : whole 2 4096 l ≡ true) (x : One) (e : x ≡ readOne b) where
-  abbrev scan-by-start : One → Answer
-  scan-by-start y = given (y .refusal) (handedBack (scannedFrom 0 b (pointsOf l))) (emptyUnder (y .refusal))
-
-  pub scan-start-refused : (x .refusal ≡ 0 → ⊥) → scan b l ≡ emptyUnder (x .refusal)
-  unfolding scan scannedByPoints
-  scan-start-refused k = rw w (ap scan-by-start (sym e) ∙ rw (ne-eqb (x .refusal) 0 k) refl)
-
-  scan-start-read : x .refusal ≡ 0 → scan b l ≡ handedBack (scannedFrom 0 b (pointsOf l))
-  unfolding scan scannedByPoints
-  scan-start-read k = rw w (ap scan-by-start (sym e) ∙ rw (eq-eqb (x .refusal) 0 k) refl)
-
-  -- the running box after all points, and the last refusal
-  module _ (k : x .refusal ≡ 0) (a : Answer) (f : a ≡ scannedFrom 0 b (pointsOf l)) where
-    handed : scan b l ≡ handedBack a
-    handed = scan-start-read k ∙ ap handedBack (sym f)
-
-    pub scan-left : (a .refusal ≡ 0 → ⊥) → scan b l ≡ a
-    unfolding handedBack
-    scan-left n = handed ∙ simp (ne-eqb (a .refusal) 0 n)
-
-    pub scan-written : a .refusal ≡ 0 → (y : One) → y ≡ readOne (a .value) → scan b l ≡ rectAnswer (y .value)
-    unfolding handedBack readOne
-    scan-written n y g = handed ∙ rw (eq-eqb (a .refusal) 0 n) (ap (λ (z : One). rectAnswer (z .value)) (sym g))
-
-pub scan-turn : (n : ℕ) (b : Rect) (l : List Float) (i : ℕ) → i + 1 < length l → (m : ℕ) (a : Answer) → a ≡ enlarge b (pointAt l i) → m ≡ firstRefusal (a .refusal) n
-    → scannedFrom n b (pointsOf (drop i l)) ≡ scannedFrom m (a .value) (pointsOf (drop (i + 2) l))
-unfolding scannedFrom
-scan-turn n b l i h m a e k =
-    ap (λ (ps : List LatLng). scannedFrom n b ps) (two l i h)
-    ∙ ap (λ (y : Answer). scannedFrom (firstRefusal (y .refusal) n) (y .value) (pointsOf (drop (i + 2) l))) (sym e)
-    ∙ ap (λ (j : ℕ). scannedFrom j (a .value) (pointsOf (drop (i + 2) l))) (sym k)
-
-pub scan-end : (n : ℕ) (b : Rect) (l : List Float) → scannedFrom n b (pointsOf (drop (length l) l)) ≡ under n b
-unfolding scannedFrom
-scan-end n b l = rw (none-left l) refl

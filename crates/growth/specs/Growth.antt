@@ -12,7 +12,7 @@ use Rattle.s2.specs.declared.rect.Answer.{Answer}
 use Rattle.s2.specs.Zone as zone
 use Rattle.s2.specs.Reading.{asRead, plainPoint, readOne}
 use Rattle.s2.specs.Answers.{rectAnswer, emptyUnder, rectangle, add}
-use Rattle.lists.specs.Lists.{whole}
+use Rattle.entries.specs.Lists.{whole}
 use Rattle.lists.specs.Points.{pointsOf}
 use Rattle.lists.specs.Refused.{firstBad}
 

@@ -1,3 +1,2 @@
 pub mod Growth
-pub mod Scan
 pub mod Devices

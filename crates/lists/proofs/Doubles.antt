@@ -21,11 +21,12 @@ use Rattle.s2.specs.Zone.{isValid, validLatitudes, isLatLng}
 use Rattle.s2.specs.Reading.{rectInReach, readOne, readPoint}
 use Rattle.s2.specs.Places.{Valid, ValidPoint}
 use Rattle.s2.proofs.Readings.{one-in, point-in}
-use Rattle.lists.specs.Lists.{Mem, first, later, All}
+use Rattle.entries.specs.Lists.{Mem, first, later, All}
 use Rattle.lists.specs.Rects.{rectsOf}
 use Rattle.lists.specs.Points.{pointsOf}
-use Rattle.lists.specs.Refused.{ofRect, ofPoint, firstNumber, firstRefused, firstBad}
-use Rattle.lists.proofs.Refused.{Good, none-when}
+use Rattle.entries.specs.First.{firstNumber}
+use Rattle.lists.specs.Refused.{ofRect, ofPoint, firstRefused, firstBad}
+use Rattle.entries.proofs.First.{Good, none-when}
 
 -- ---- a rectangle: all four numbers are doubles
 pub record Doubles (r : Rect) : Type 0 where

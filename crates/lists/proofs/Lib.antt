@@ -1,9 +1,4 @@
-pub mod Entries
-pub mod Lengths
 pub mod RectLists
 pub mod PointLists
-pub mod Refused
-pub mod Inputs
-pub mod Written
 pub mod Doubles
 pub mod Promises

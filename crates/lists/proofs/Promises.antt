@@ -17,18 +17,19 @@ use Rattle.s2.specs.Zone.{at, box, isValid, isLatLng}
 use Rattle.s2.specs.Reading.{rectInReach, readOne, readPoint}
 use Rattle.s2.specs.Places.{Valid, ValidPoint}
 use Rattle.s2.proofs.Readings.{one-out, one-not-valid, point-bad}
-use Rattle.lists.specs.declared.lists.First.{First}
-use Rattle.lists.specs.Lists.{All, whole}
+use Rattle.entries.specs.declared.records.First.{First}
+use Rattle.entries.specs.Lists.{All, whole}
 use Rattle.lists.specs.Rects.{rectsOf, numbersOf, putRect, asReadAll}
 use Rattle.lists.specs.Points.{pointsOf, latLngsOf}
-use Rattle.lists.specs.Refused.{ofRect, ofPoint, firstOf, firstRefused, firstBad}
-use Rattle.lists.specs.Inputs.{Form, Items, Fault, inputOf}
-use Rattle.lists.proofs.Lengths.{not-whole-when}
+use Rattle.entries.specs.First.{firstOf}
+use Rattle.lists.specs.Refused.{ofRect, ofPoint, firstRefused, firstBad}
+use Rattle.entries.specs.Inputs.{Form, Items, Fault, inputOf}
+use Rattle.entries.proofs.Lengths.{not-whole-when}
 use Rattle.lists.proofs.RectLists as rects
 use Rattle.lists.proofs.PointLists as points
-use Rattle.lists.proofs.Refused.{IsFirst, none-told, none-when, first-told, first-when}
+use Rattle.entries.proofs.First.{IsFirst, none-told, none-when, first-told, first-when}
 use Rattle.lists.proofs.Doubles.{Doubles, DoublePoint, rects-accepted, points-accepted}
-use Rattle.lists.proofs.Inputs as inputs
+use Rattle.entries.proofs.Inputs as inputs
 
 -- ---- "Negative zero coming in is read as zero": what has been read has none, and is read as it stands
 pub read-once : (rs : List Rect) → asReadAll (asReadAll rs) ≡ asReadAll rs

@@ -18,7 +18,7 @@ use Rattle.s1.specs.Circle as circle
 use Rattle.s2.specs.declared.rect.Rect.{Rect}
 use Rattle.s2.specs.Zone.{box}
 use Rattle.s2.specs.Reading.{asRead}
-use Rattle.lists.specs.Lists.{All}
+use Rattle.entries.specs.Lists.{All}
 use Rattle.lists.specs.Rects.{rectsOf, rectAt, numbersOf, putRect, asReadAll}
 
 -- ---- one rectangle more

@@ -1,5 +1,3 @@
-pub mod Lists
 pub mod Rects
 pub mod Points
 pub mod Refused
-pub mod Inputs

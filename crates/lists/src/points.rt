@@ -1,5 +1,5 @@
 // Points, latitude then longitude each.
-use crate::lists::no_number;
+use entries::no_number;
 use s2::latlng::LatLng;
 use s2::reading::Pair;
 use s2::reading::read_point;

@@ -1,8 +1,8 @@
 // Rectangles, lat.lo, lat.hi, lng.lo, lng.hi each.
-use crate::lists::First;
-use crate::lists::no_number;
-use crate::lists::number_at;
 use consts::ACCEPTED;
+use entries::First;
+use entries::no_number;
+use entries::number_at;
 use r1::interval::Interval as Line;
 use s1::interval::Interval as Circle;
 use s2::reading::One;
@@ -13,7 +13,8 @@ ghost use Prim.Native.Nat.{_+_, _<_};
 ghost use lib.ListN.{length};
 ghost use Rattle.s2.specs.Reading.{readOne};
 ghost use Rattle.lists.specs.Rects.{rectsOf, rectAt, putRect};
-ghost use Rattle.lists.specs.Refused.{ofRect, firstOf};
+ghost use Rattle.entries.specs.First.{firstOf};
+ghost use Rattle.lists.specs.Refused.{ofRect};
 
 // The rectangle of four numbers that are there.
 fn inside(list: &[f64], i: usize) -> Rect

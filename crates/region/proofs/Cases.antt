@@ -12,9 +12,9 @@ use Rattle.consts.specs.Refusal.{number, accepted, badList, noRoom, firstRefusa
 use Rattle.r1.specs.declared.interval.Interval.{Interval as Line}
 use Rattle.s1.specs.declared.interval.Interval.{Interval}
 use Rattle.lists.specs.Rects.{rectsOf}
-use Rattle.lists.specs.Lists.{whole}
+use Rattle.entries.specs.Lists.{whole}
 use Rattle.lists.specs.Refused.{firstRefused}
-use Rattle.lists.proofs.Lengths as lengths
+use Rattle.entries.proofs.Lengths as lengths
 use Rattle.lists.proofs.Doubles.{all-valid}
 use Rattle.region.specs.declared.region.Pieces.{Pieces}
 use Rattle.region.specs.Region.{across}

@@ -13,8 +13,8 @@ use Rattle.s1.specs.Circle as circle
 use Rattle.s2.specs.Zone.{latitude, isValid}
 use Rattle.s2.specs.Reading.{asRead, rectInReach, readOne}
 use Rattle.lists.specs.Rects.{rectsOf, numbersOf, asReadAll}
-use Rattle.lists.specs.Lists.{wholeLength}
-use Rattle.lists.specs.Refused.{firstNumber}
+use Rattle.entries.specs.Lists.{wholeLength}
+use Rattle.entries.specs.First.{firstNumber}
 use Rattle.arcs.specs.CommonArcs.{someHolds}
 use Rattle.arcs.specs.Clipping.{before, sooner, insert, cut, endAt, clip, whole, step, steps, common}
 use Rattle.region.specs.Region.{bandFrom, lngs, across, region}

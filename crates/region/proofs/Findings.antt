@@ -16,7 +16,8 @@ use Rattle.lists.proofs.Doubles.{all-valid}
 use Rattle.arcs.specs.CommonArcs.{AreRead}
 use Rattle.arcs.specs.Clipping.{common}
 use Rattle.arcs.specs.Kinds.{risen, crossing, met}
-use Rattle.arcs.specs.Arrays.{zip, room, Met}
+use Rattle.sort.specs.Arrays.{zip}
+use Rattle.arcs.specs.Arrays.{room, Met}
 use Rattle.arcs.proofs.Rising.{kinds-read}
 use Rattle.arcs.proofs.Laws.{two-kinds}
 use Rattle.region.specs.declared.reading.Arcs.{Arcs}

@@ -23,10 +23,11 @@ use Rattle.s2.specs.Zone.{isEmpty}
 use Rattle.s2.specs.Places.{IsPlace, Valid, holds}
 use Rattle.s2.proofs.Readings.{one-in}
 use Rattle.s2.proofs.Places.{own, own-place, own-held}
-use Rattle.lists.specs.Lists.{All, Mem, first, later, whole}
+use Rattle.entries.specs.Lists.{All, Mem, first, later, whole}
 use Rattle.lists.specs.Rects.{rectsOf, asReadAll}
-use Rattle.lists.specs.Refused.{ofRect, firstRefused, firstNumber}
-use Rattle.lists.proofs.Refused.{passed}
+use Rattle.entries.specs.First.{firstNumber}
+use Rattle.lists.specs.Refused.{ofRect, firstRefused}
+use Rattle.entries.proofs.First.{passed}
 use Rattle.arcs.specs.Clipping.{common}
 use Rattle.arcs.proofs.Tests.{both-ways}
 use Rattle.arcs.proofs.Laws as arcs

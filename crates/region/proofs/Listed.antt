@@ -23,8 +23,8 @@ use Rattle.s2.specs.Places.{IsPlace, placeAt, Valid, holds}
 use Rattle.s2.proofs.Readings.{valid-read, holds-read, lat-place}
 use Rattle.s2.proofs.Latitudes.{Range, range-reach, intersection-range, filled}
 use Rattle.s2.proofs.Valid.{range, made}
-use Rattle.lists.specs.Lists.{All, Pairs}
-use Rattle.lists.proofs.Entries.{pairs-map}
+use Rattle.entries.specs.Lists.{All, Pairs}
+use Rattle.entries.proofs.Entries.{pairs-map}
 use Rattle.lists.specs.Rects.{asReadAll}
 use Rattle.arcs.specs.CommonArcs.{everyHolds, someHolds, ArcsApart, ArcsUnjoined, LowerArc, PlainArc, AreRead, CommonArcs}
 use Rattle.arcs.specs.Clipping.{common}

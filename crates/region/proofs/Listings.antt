@@ -16,7 +16,7 @@ use Rattle.r1.specs.Line as line
 use Rattle.s2.specs.declared.rect.Rect.{Rect}
 use Rattle.s2.specs.Zone.{FULL}
 use Rattle.s2.specs.Places.{Valid}
-use Rattle.lists.specs.Lists.{All, whole, wholeLength}
+use Rattle.entries.specs.Lists.{All, whole, wholeLength}
 use Rattle.lists.proofs.RectLists.{length-numbers}
 use Rattle.lists.specs.Rects.{rectsOf, numbersOf, asReadAll}
 use Rattle.region.specs.declared.region.Pieces.{Pieces}

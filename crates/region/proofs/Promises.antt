@@ -17,7 +17,7 @@ use Rattle.s2.specs.declared.rect.Rect.{Rect}
 use Rattle.s2.specs.Zone.{FULL}
 use Rattle.s2.specs.Reading.{asRead}
 use Rattle.s2.specs.Places.{IsPlace, Valid}
-use Rattle.lists.specs.Lists.{All, Mem}
+use Rattle.entries.specs.Lists.{All, Mem}
 use Rattle.lists.specs.Rects.{rectsOf, numbersOf, asReadAll}
 use Rattle.region.specs.declared.region.Pieces.{Pieces}
 use Rattle.region.specs.CommonRegion.{inEvery, CommonRegion}

@@ -12,9 +12,10 @@ use Rattle.consts.specs.Refusal.{Reason, accepted, outOfReach, notValid, badPoi
 use Rattle.s2.specs.declared.rect.Rect.{Rect}
 use Rattle.s2.specs.Zone.{isValid}
 use Rattle.s2.specs.Reading.{rectInReach, readOne}
-use Rattle.lists.specs.Lists.{All, whole}
+use Rattle.entries.specs.Lists.{All, whole}
 use Rattle.lists.specs.Rects.{rectsOf}
-use Rattle.lists.specs.Refused.{firstRefused, firstNumber}
+use Rattle.entries.specs.First.{firstNumber}
+use Rattle.lists.specs.Refused.{firstRefused}
 use Rattle.region.specs.Answers.{piecesOf, refusalOf}
 use Rattle.region.proofs.Cases.{odd, long, good, bad-list, bad-entry, no-room, room-enough}
 

@@ -19,10 +19,11 @@ use Rattle.s2.specs.declared.rect.Rect.{Rect}
 use Rattle.s2.specs.Reading.{readOne}
 use Rattle.lists.specs.Rects.{rectsOf, rectAt, asReadAll}
 use Rattle.lists.proofs.RectLists.{four, none-left}
-use Rattle.lists.specs.Refused.{firstRefused, firstNumber}
+use Rattle.entries.specs.First.{firstNumber}
+use Rattle.lists.specs.Refused.{firstRefused}
 use Rattle.arcs.specs.Kinds.{rises, narrowed, risen, crossing}
-use Rattle.arcs.specs.Arrays.{zip}
-use Rattle.arcs.proofs.Turns.{zip-length, zip-set}
+use Rattle.sort.specs.Arrays.{zip}
+use Rattle.sort.proofs.Arrays.{zip-length, zip-set}
 use Rattle.region.specs.Region.{bandFrom, lngs}
 
 module _ (l : List Float) (i : ℕ) (h : i + 3 < length l) where

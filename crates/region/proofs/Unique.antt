@@ -25,8 +25,8 @@ use Rattle.s2.proofs.Latitudes.{filled-lo}
 use Rattle.s2.proofs.Valid.{range, empty-both}
 use Rattle.s2.proofs.Circles.{lng-hi}
 use Rattle.s2.proofs.Places.{held-latitude}
-use Rattle.lists.specs.Lists.{All, Pairs, Mem, first, later}
-use Rattle.lists.proofs.Entries.{all-at, pair-cases, all-map}
+use Rattle.entries.specs.Lists.{All, Pairs, Mem, first, later}
+use Rattle.entries.proofs.Entries.{all-at, pair-cases, all-map}
 use Rattle.arcs.proofs.Orders.{IsNum, lo-is, split-at}
 use Rattle.arcs.proofs.Aligned.{Two, aligned}
 use Rattle.arcs.proofs.Unique.{Same, same-of, equal-arcs}

@@ -12,8 +12,8 @@ use Rattle.s1.specs.declared.interval.Interval.{Interval}
 use Rattle.s1.specs.Circle.{ends}
 use Rattle.lists.specs.Rects.{numbersOf}
 use Rattle.region.specs.Region.{across}
-use Rattle.arcs.specs.Arrays.{zip}
-use Rattle.arcs.proofs.Turns.{zip-length, zip-at}
+use Rattle.sort.specs.Arrays.{zip}
+use Rattle.sort.proofs.Arrays.{zip-length, zip-at}
 
 numbers-append : (b : Line) (l m : List Interval) → numbersOf (across b (l ++ m)) ≡ numbersOf (across b l) ++ numbersOf (across b m)
 unfolding numbersOf across

@@ -9,7 +9,7 @@ use lib.Dec.{leb}
 use lib.Ieee.{Float}
 use Rattle.consts.specs.Refusal.{number, accepted, badList, noRoom, firstRefusal, given}
 use Rattle.s2.specs.declared.rect.Rect.{Rect}
-use Rattle.lists.specs.Lists.{whole}
+use Rattle.entries.specs.Lists.{whole}
 use Rattle.lists.specs.Rects.{rectsOf, numbersOf, asReadAll}
 use Rattle.lists.specs.Refused.{firstRefused}
 use Rattle.region.specs.declared.region.Pieces.{Pieces}

@@ -11,7 +11,7 @@ use Rattle.s2.specs.declared.rect.Rect.{Rect}
 use Rattle.s2.specs.Zone.{isEmpty}
 use Rattle.s2.specs.Reading.{asRead}
 use Rattle.s2.specs.Places.{IsPlace, Valid, holds}
-use Rattle.lists.specs.Lists.{All, Pairs}
+use Rattle.entries.specs.Lists.{All, Pairs}
 
 -- the place lies in every rectangle of the list; in one of them
 unfoldable pub inEvery : List Rect → Place → Bool

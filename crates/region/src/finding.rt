@@ -5,7 +5,7 @@ use consts::ACCEPTED;
 use r1::interval::Interval as Line;
 use r1::line;
 ghost use mathlib.Core.Path.{_≡_};
-ghost use Rattle.arcs.specs.Arrays.{zip};
+ghost use Rattle.sort.specs.Arrays.{zip};
 ghost use Rattle.region.specs.Inside.{Room, IsFound};
 
 // The first refusal of a list or, under 0, how many longitude pieces were found and the common latitude

@@ -14,7 +14,7 @@ ghost use Prim.Native.Nat.{_+_, _*_, _<_, _≤_, _%_};
 ghost use lib.ListN.{length};
 ghost use Rattle.s2.specs.Reading.{readOne};
 ghost use Rattle.lists.specs.Rects.{rectAt};
-ghost use Rattle.arcs.specs.Arrays.{zip};
+ghost use Rattle.sort.specs.Arrays.{zip};
 ghost use Rattle.region.specs.Inside.{IsArcs};
 
 // The first refusal or, under 0, how many arcs cross the seam, the common band, and what the other arcs

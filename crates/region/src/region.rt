@@ -11,7 +11,7 @@ ghost use mathlib.Core.List.{_++_};
 ghost use Prim.Native.Nat.{_*_, _≤_, _%_};
 ghost use lib.ListN.{length, take, drop};
 ghost use Rattle.lists.specs.Rects.{numbersOf};
-ghost use Rattle.arcs.specs.Arrays.{zip};
+ghost use Rattle.sort.specs.Arrays.{zip};
 ghost use Rattle.region.specs.Region.{across};
 ghost use Rattle.region.specs.Answers.{Promised};
 ghost use Rattle.region.specs.Inside.{Room, Fitted, IsWritten};
@@ -103,13 +103,6 @@ fn region_sized(list: &[f64], out: &mut [f64]) -> Pieces
         let mut east = [0.0; 16];
         let mut lo = [0.0; 18];
         let mut hi = [0.0; 18];
-        return region_in(list, &mut west, &mut east, &mut lo, &mut hi, out);
-    }
-    if n <= 256 {
-        let mut west = [0.0; 64];
-        let mut east = [0.0; 64];
-        let mut lo = [0.0; 66];
-        let mut hi = [0.0; 66];
         return region_in(list, &mut west, &mut east, &mut lo, &mut hi, out);
     }
     if n <= 512 {

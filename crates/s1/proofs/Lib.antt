@@ -1,7 +1,5 @@
 pub mod Readings
-pub mod Forms
 pub mod Spots
-pub mod Trials
 pub mod Held
 pub mod Limits
 pub mod Laws

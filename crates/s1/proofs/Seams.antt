@@ -18,7 +18,7 @@ use Rattle.s1.specs.Reading.{plainEnds, onCircle}
 use Rattle.s1.specs.Answers.{circleAnswer, «new», invert, fromLine, toLine}
 use Rattle.s1.specs.Places.{Valid}
 use Rattle.s1.proofs.Readings.{valid-on}
-use Rattle.s1.proofs.Forms.{validG}
+use Rattle.trials.proofs.Forms.{validG}
 use Rattle.s1.proofs.Held.{num-PI, num-NEG, swap-valid}
 use Rattle.s1.proofs.Limits.{OnCircle, point-num, circle-plain, valid-plain, one-in, ends-in}
 

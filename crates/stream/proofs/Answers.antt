@@ -12,11 +12,11 @@ use Rattle.order.proofs.Ranks.{and-of}
 use Rattle.s2.specs.declared.rect.Rect.{Rect}
 use Rattle.s2.specs.Places.{Valid}
 use Rattle.s2.proofs.Readings.{valid-read}
-use Rattle.lists.specs.Lists.{whole, All, wholeLength}
-use Rattle.lists.specs.Inputs as inputs
-use Rattle.lists.specs.Inputs.{Input, inputOf}
-use Rattle.lists.proofs.Inputs as reading
-use Rattle.lists.proofs.Lengths.{good}
+use Rattle.entries.specs.Lists.{whole, All, wholeLength}
+use Rattle.entries.specs.Inputs as inputs
+use Rattle.entries.specs.Inputs.{Input, inputOf}
+use Rattle.entries.proofs.Inputs as reading
+use Rattle.entries.proofs.Lengths.{good}
 use Rattle.lists.specs.Rects.{numbersOf}
 use Rattle.lists.proofs.RectLists.{length-numbers, rects-numbers}
 use Rattle.region.specs.declared.region.Pieces.{Pieces}
@@ -28,7 +28,7 @@ use Rattle.stream.specs.declared.gather.Gathered.{Gathered}
 use Rattle.stream.specs.Stream.{Stream, Numbers, Fault, RECORDS, toStream, streamOf}
 use Rattle.stream.specs.Answers.{regionText, textOf, answerText}
 use Rattle.stream.specs.Inside.{IsGathered, Taken}
-use Rattle.stream.proofs.Records.{taken-valid}
+use Rattle.record.proofs.Records.{taken-valid}
 
 -- ---- a stream without a fault: at most 512 rectangles, each valid
 valid-items : (n : ℕ) (s : List ℕ) → ((i : ℕ) → i < n → reading.ReadAt RECORDS s i) → All Valid (reading.itemsAt RECORDS n s)

@@ -23,14 +23,14 @@ use Rattle.s2.specs.Places.{Valid}
 use Rattle.s2.specs.Reading.{rectInReach}
 use Rattle.s2.proofs.Readings.{reach-of}
 use Rattle.region.proofs.Unique.{unique}
-use Rattle.lists.specs.Inputs.{inTurn}
-use Rattle.lists.specs.Lists.{All}
+use Rattle.entries.specs.Inputs.{inTurn}
+use Rattle.entries.specs.Lists.{All}
 use Rattle.lists.specs.Rects.{numbersOf}
 use Rattle.text.specs.Text.{piecesText, refusedText}
-use Rattle.stream.specs.Records.{wordAt, doubleAt, wholeRecord, rectOf, numberOf}
+use Rattle.record.specs.Records.{wordAt, doubleAt, wholeRecord, rectOf, numberOf}
 use Rattle.stream.specs.Bytes.{littleEndian, doubleBytes, recordBytes, streamBytes}
 use Rattle.stream.specs.Answers.{answerText}
-use Rattle.stream.proofs.Records.{whole-long, whole-mark, taken-whole, taken-valid}
+use Rattle.record.proofs.Records.{whole-long, whole-mark, taken-whole, taken-valid}
 use Rattle.stream.proofs.Laws.{Answers, common-answer, first-fault, one-too-many, no-record}
 use Rattle.stream.proofs.Settled.{settled}
 

@@ -17,9 +17,9 @@ use Rattle.s2.specs.declared.rect.Rect.{Rect}
 use Rattle.s2.specs.Places.{Valid}
 use Rattle.s2.specs.Reading.{asRead}
 use Rattle.s2.proofs.Readings.{one-in}
-use Rattle.lists.specs.Inputs.{Input}
-use Rattle.lists.proofs.Written.{Reads, each, written, then-fault, then-over}
-use Rattle.lists.specs.Lists.{All}
+use Rattle.entries.specs.Inputs.{Input}
+use Rattle.entries.proofs.Written.{Reads, each, written, then-fault, then-over}
+use Rattle.entries.specs.Lists.{All}
 use Rattle.lists.specs.Rects.{numbersOf, asReadAll}
 use Rattle.lists.proofs.RectLists.{rects-numbers}
 use Rattle.region.specs.CommonRegion.{CommonRegion}
@@ -27,11 +27,11 @@ use Rattle.region.specs.Region.{region}
 use Rattle.region.specs.Answers.{piecesOf}
 use Rattle.region.proofs.Listed.{Read, read-all, listed-is}
 use Rattle.text.specs.Text.{piecesText, refusedText}
-use Rattle.stream.specs.Records.{isMark, joined, wordAt, doubleAt, wholeRecord, rectOf, numberOf}
+use Rattle.record.specs.Records.{isMark, joined, wordAt, doubleAt, wholeRecord, rectOf, numberOf}
 use Rattle.stream.specs.Bytes.{littleEndian, doubleBytes, recordBytes, streamBytes}
 use Rattle.stream.specs.Stream.{Numbers, overNumber, RECORDS, toStream, streamOf}
 use Rattle.stream.specs.Answers.{regionText, textOf, answerText}
-use Rattle.stream.proofs.Records.{whole-number}
+use Rattle.record.proofs.Records.{whole-number}
 use Rattle.stream.proofs.Streams.{over-whole, over-other}
 
 -- ---- a word's bytes

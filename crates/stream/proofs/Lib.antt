@@ -1,4 +1,3 @@
-pub mod Records
 pub mod Streams
 pub mod Answers
 pub mod Laws

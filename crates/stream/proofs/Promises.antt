@@ -16,19 +16,19 @@ use Rattle.s2.specs.Zone.{isValid}
 use Rattle.s2.specs.Reading.{rectInReach, asRead, readOne}
 use Rattle.s2.specs.Places.{Valid}
 use Rattle.s2.specs.Reading.{NoMinusRect}
-use Rattle.lists.specs.Lists.{All}
+use Rattle.entries.specs.Lists.{All}
 use Rattle.lists.specs.Rects.{numbersOf, asReadAll}
 use Rattle.region.specs.Answers.{piecesOf}
 use Rattle.region.proofs.Listed.{listed-is}
 use Rattle.text.specs.Text.{refusedText}
-use Rattle.stream.specs.declared.record.Record.{Record}
-use Rattle.stream.specs.declared.record.Record.the-variants.{Rectangle, Refused}
-use Rattle.stream.specs.Records.{isMark, wholeRecord, rectOf, numberOf, recordNumber, recordValues, IsRecord}
+use Rattle.record.specs.declared.record.Record.{Record}
+use Rattle.record.specs.declared.record.Record.the-variants.{Rectangle, Refused}
+use Rattle.record.specs.Records.{isMark, wholeRecord, rectOf, numberOf, recordNumber, recordValues, IsRecord}
 use Rattle.stream.specs.Bytes.{recordBytes, streamBytes}
 use Rattle.stream.specs.Stream.{Numbers, streamOf}
 use Rattle.stream.specs.Answers.{answerText}
-use Rattle.stream.proofs.Records as records
-use Rattle.stream.proofs.Records.{Plain}
+use Rattle.record.proofs.Records as records
+use Rattle.record.proofs.Records.{Plain}
 use Rattle.stream.proofs.Answers as answers
 use Rattle.stream.proofs.Laws as laws
 use Rattle.stream.proofs.Laws.{Answers}

@@ -13,8 +13,8 @@ use lib.Dec.{leb}
 use Rattle.consts.specs.Refusal.{given}
 use Rattle.s2.specs.declared.rect.Rect.{Rect}
 use Rattle.s2.specs.Reading.{asRead}
-use Rattle.lists.specs.Inputs.{Input, Fault, after, readFrom, inputOf}
-use Rattle.stream.specs.Records.{wordAt, doubleAt, wholeRecord, rectOf, numberOf}
+use Rattle.entries.specs.Inputs.{Input, Fault, after, readFrom, inputOf}
+use Rattle.record.specs.Records.{wordAt, doubleAt, wholeRecord, rectOf, numberOf}
 use Rattle.stream.specs.Stream.{overNumber, RECORDS, toStream, streamOf}
 use Rattle.stream.specs.Answers.{textOf, answerText}
 

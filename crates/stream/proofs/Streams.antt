@@ -14,15 +14,15 @@ use Rattle.consts.specs.Refusal.{number, badList, badRecord}
 use Rattle.s2.specs.declared.rect.Rect.{Rect}
 use Rattle.s2.specs.Reading.{asRead}
 use Rattle.lists.specs.Rects.{putRect, numbersOf}
-use Rattle.lists.proofs.Inputs as reading
+use Rattle.entries.proofs.Inputs as reading
 use Rattle.lists.proofs.RectLists.{sets-take, four-stores, put-stores}
-use Rattle.stream.specs.declared.record.Record.{Record}
-use Rattle.stream.specs.declared.record.Record.the-variants.{Rectangle, Refused}
+use Rattle.record.specs.declared.record.Record.{Record}
+use Rattle.record.specs.declared.record.Record.the-variants.{Rectangle, Refused}
 use Rattle.stream.specs.declared.gather.Gathered.{Gathered}
-use Rattle.stream.specs.Records.{wholeRecord, rectOf, numberOf, recordNumber, IsRecord}
+use Rattle.record.specs.Records.{wholeRecord, rectOf, numberOf, recordNumber, IsRecord}
 use Rattle.stream.specs.Stream.{Numbers, Fault, overNumber, RECORDS, toStream, streamOf}
 use Rattle.stream.specs.Inside.{endedWith, gathered}
-use Rattle.stream.proofs.Records.{is-taken, taken-is, is-refused}
+use Rattle.record.proofs.Records.{is-taken, taken-is, is-refused}
 
 -- ---- one record
 -- the part of a slice from a place on

@@ -5,7 +5,7 @@ use Prim.Native.Nat.{ℕ, zero, suc, _/_, _%_}
 use lib.Ieee.{Float}
 use Rattle.bits.specs.Pattern.{toPattern}
 use Rattle.s2.specs.declared.rect.Rect.{Rect}
-use Rattle.lists.specs.Inputs.{inTurn}
+use Rattle.entries.specs.Inputs.{inTurn}
 
 -- the k bytes of a word, the lowest first
 unfoldable pub littleEndian : ℕ → ℕ → List ℕ

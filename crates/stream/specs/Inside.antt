@@ -1,21 +1,17 @@
 -- What the functions of src/ promise each other. Nothing here needs to be believed: no public contract and no promise cites it.
 use mathlib.Core.Path.{_≡_}
-use mathlib.Core.Bool.{Bool, true, cond}
+use mathlib.Core.Bool.{true, cond}
 use mathlib.Core.List.{List}
 use Prim.Native.Nat.{ℕ, _*_, _≤_}
 use lib.ListN.{length, take, drop}
-use lib.Dec.{leb, eqb}
+use lib.Dec.{leb}
 use lib.Ieee.{Float}
 use Rattle.consts.specs.Refusal.{number, accepted, given}
 use Rattle.s2.specs.Places.{Valid}
-use Rattle.lists.specs.Lists.{All, whole}
+use Rattle.entries.specs.Lists.{All, whole}
 use Rattle.lists.specs.Rects.{rectsOf}
 use Rattle.stream.specs.declared.gather.Gathered.{Gathered}
 use Rattle.stream.specs.Stream.{Stream, Numbers, Fault, overNumber, streamOf}
-
--- the second byte of the mark
-unfoldable pub isSecond : ℕ → Bool
-isSecond b = eqb b 0x31
 
 -- k records were read, and no other is taken
 unfoldable pub endedWith : ℕ → List ℕ → Gathered

@@ -1,4 +1,3 @@
-pub mod Records
 pub mod Stream
 pub mod Answers
 pub mod Bytes

@@ -8,10 +8,10 @@ use lib.Ieee.{Float}
 use Rattle.consts.specs.Refusal.{number, badList, badRecord}
 use Rattle.s2.specs.declared.rect.Rect.{Rect}
 use Rattle.s2.specs.Reading.{asRead}
-use Rattle.lists.specs.Inputs as inputs
-use Rattle.lists.specs.Inputs.{Form, Input, inputOf}
+use Rattle.entries.specs.Inputs as inputs
+use Rattle.entries.specs.Inputs.{Form, Input, inputOf}
 use Rattle.lists.specs.Rects.{numbersOf}
-use Rattle.stream.specs.Records.{wholeRecord, rectOf, numberOf}
+use Rattle.record.specs.Records.{wholeRecord, rectOf, numberOf}
 
 pub data Stream : Type 0 where
   -- every record is a rectangle: lat.lo, lat.hi, lng.lo, lng.hi of each, as it is read

@@ -1,13 +1,13 @@
 // The records of a stream from the first to the last, their rectangles as one list of numbers. The first
 // fault decides.
-use crate::record::Record;
-use crate::record::is_record;
-use crate::record::number_of;
-use crate::record::read_record;
 use consts::ACCEPTED;
 use consts::BAD_LIST;
 use consts::BAD_RECORD;
 use lists::put_rect;
+use record::Record;
+use record::is_record;
+use record::number_of;
+use record::read_record;
 ghost use mathlib.Core.Path.{_≡_};
 ghost use Prim.Native.Nat.{_≤_};
 ghost use lib.ListN.{length};

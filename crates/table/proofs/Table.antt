@@ -20,9 +20,9 @@ use Rattle.s2.specs.Zone as rect
 use Rattle.s2.specs.Zone.{at, box}
 use Rattle.s2.specs.Reading as rects
 use Rattle.s2.specs.Answers.{rectAnswer, vertex, expanded}
-use Rattle.lists.specs.Lists.{wholeLength}
+use Rattle.entries.specs.Lists.{wholeLength}
 use Rattle.lists.specs.Rects.{rectsOf, numbersOf, asReadAll}
-use Rattle.lists.specs.Refused.{firstNumber}
+use Rattle.entries.specs.First.{firstNumber}
 use Rattle.arcs.specs.CommonArcs as places
 use Rattle.arcs.specs.Clipping as pieces
 use Rattle.region.specs.Region as region

@@ -9,8 +9,8 @@ use lib.ListN.{length}
 use lib.Ieee.{Float}
 use Rattle.consts.specs.Refusal.{number, accepted, noRoom}
 use Rattle.text.specs.Inside.{put}
-use Rattle.lists.specs.Lists.{whole}
-use Rattle.lists.proofs.Lengths.{whole-multiple, whole-short}
+use Rattle.entries.specs.Lists.{whole}
+use Rattle.entries.proofs.Lengths.{whole-multiple, whole-short}
 use Rattle.text.specs.Answers.{refusedWith, wrote, left}
 use Rattle.text.proofs.Puts.{put-front}
 

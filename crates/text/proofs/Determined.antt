@@ -9,7 +9,7 @@ use lib.ListN.{length, take, drop, getD, length-drop, drop-of-length-le}
 use lib.Seq.{take-at, drop-at, getD-drop}
 use lib.Ieee.{Float, nan, binary64, fits}
 use Rattle.text.specs.Text.{numberText, wordText, lineText, linesText, headText, PIECES, piecesText}
-use Rattle.lists.specs.Lists.{whole}
+use Rattle.entries.specs.Lists.{whole}
 use Rattle.text.proofs.Lengths.{length-number, length-word, length-line, few-digits, length-pieces}
 use Rattle.text.proofs.Lines.{four-at}
 use Rattle.text.proofs.Digits.{same-number}

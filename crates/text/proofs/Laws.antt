@@ -10,7 +10,7 @@ use lib.ListN.{length, drop}
 use lib.Seq.{take-append-seam, drop-append-seam}
 use lib.Ieee.{Float}
 use Rattle.consts.specs.Refusal.{number, accepted}
-use Rattle.lists.specs.Lists.{whole}
+use Rattle.entries.specs.Lists.{whole}
 use Rattle.text.specs.Text.{piecesText, refusedText, refusedAtText}
 use Rattle.text.specs.Answers.{wrote, left, wrotePieces, leftPieces, wroteRefusal, leftRefusal, wroteRefusalAt, leftRefusalAt, Stands}
 use Rattle.text.proofs.Lengths.{few-digits, length-pieces, length-refused}

@@ -12,8 +12,8 @@ use lib.ListN.{length}
 use lib.Ieee.{Float, binary64, fits}
 use Rattle.bits.specs.Pattern.{toPattern}
 use Rattle.consts.specs.Refusal.{number, accepted, badList, noRoom}
-use Rattle.lists.specs.Lists.{All, whole}
-use Rattle.lists.proofs.Lengths.{not-whole-when}
+use Rattle.entries.specs.Lists.{All, whole}
+use Rattle.entries.proofs.Lengths.{not-whole-when}
 use Rattle.text.specs.declared.text.Written.{Written}
 use Rattle.text.specs.Text.{hexDigit, hex, numberText, wordText, lineText, linesText, decimalText, headText, PIECES, REFUSED, AT, piecesText, refusedText, refusedAtText, value}
 use Rattle.text.specs.Answers.{refusedWith, wrote, left, wrotePieces, leftPieces, wroteRefusal, leftRefusal, wroteRefusalAt, leftRefusalAt, Stands}

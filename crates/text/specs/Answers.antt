@@ -8,7 +8,7 @@ use lib.Dec.{leb, ltb}
 use lib.ListN.{length, take, drop}
 use lib.Ieee.{Float}
 use Rattle.consts.specs.Refusal.{number, accepted, badList, noRoom}
-use Rattle.lists.specs.Lists.{whole}
+use Rattle.entries.specs.Lists.{whole}
 use Rattle.text.specs.declared.text.Written.{Written}
 use Rattle.text.specs.Text.{piecesText, refusedText, refusedAtText}
 

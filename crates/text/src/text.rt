@@ -170,7 +170,7 @@ pub fn write_pieces(list: &[f64], out: &mut [u8]) -> Written
     ensures { λ r. ⌜ r ≡ wrotePieces (now (list .entry)) (length (now (out .entry))) ⌝ }
     ensures { λ _. ⌜ now (out .exit) ≡ leftPieces (now (list .entry)) (now (out .entry)) ⌝ }
 {
-    if lists::whole(list.len(), 4, 512) {
+    if entries::whole(list.len(), 4, 512) {
         return write_whole(list, out);
     }
     Written {

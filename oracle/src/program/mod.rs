@@ -12,6 +12,7 @@ use std::process::{Command, Output, Stdio};
 
 use crate::base::check::Check;
 use crate::base::rng::Rng;
+use worked::Cases;
 
 /// What is known of a program.
 pub struct Program {
@@ -33,8 +34,8 @@ pub struct Program {
     pub kind: fn(&str) -> &'static str,
     /// the first bytes of an input, for the eye
     pub shown: fn(&[u8]) -> String,
-    /// what the program NAME_cases must write
-    pub cases: fn() -> String,
+    /// what the program NAME_cases is run on, a sort after the other
+    pub cases: fn() -> Vec<Cases>,
     /// what `oracle/check` tries
     pub checks: &'static [Check],
 }

@@ -14,7 +14,28 @@ pub fn held(worked: &[WorkedInput], answer: fn(&[u8]) -> String) -> Tried {
     tried
 }
 
-/// What a program writes that names each case and answers it.
-pub fn cases(cases: &[WorkedInput], answer: fn(&[u8]) -> String) -> String {
-    cases.iter().map(|(label, bytes, _)| format!("case {label}\n{}", answer(bytes))).collect()
+/// Cases of a program that names each one and answers it: all of one sort, by its letter.
+pub struct Cases {
+    pub sort: char,
+    pub inputs: Vec<WorkedInput>,
+    pub answer: fn(&[u8]) -> String,
+}
+
+impl Cases {
+    /// What the program reads: for each case a line with its sort, how many bytes its label and itself have, and the
+    /// label; then its bytes. The crate `cases` says the same.
+    pub fn stdin(&self) -> Vec<u8> {
+        let one = |(label, bytes, _): &WorkedInput| {
+            assert!(label.len() < 100 && bytes.len() < 1_000_000, "the counts have two and six digits");
+            let line = format!("{} {:02} {:06} {label}\n", self.sort, label.len(), bytes.len());
+            [line.as_bytes(), bytes].concat()
+        };
+        self.inputs.iter().flat_map(one).collect()
+    }
+
+    /// And what it writes.
+    pub fn stdout(&self) -> String {
+        let one = |(label, bytes, _): &WorkedInput| format!("case {label}\n{}", (self.answer)(bytes));
+        self.inputs.iter().map(one).collect()
+    }
 }

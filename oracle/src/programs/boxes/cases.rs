@@ -1,11 +1,12 @@
 //! The cases of the program `boxes_cases`: kinds of input that the stored run of `boxes` leaves out. That
-//! program hands each of them to the library function that `boxes` calls. For each it writes a line
-//! `case LABEL` and then the answer, just as `boxes` would write it. What it is expected to write is printed
-//! from here: the cases in this order, each with the reference's answer to its bytes.
+//! program reads them from its standard input, and hands each of them to the library function that `boxes`
+//! calls. For each it writes a line `case LABEL` and then the answer, just as `boxes` would write it. What it
+//! reads and what it is expected to write is printed from here: the cases in this order, each with the
+//! reference's answer to its bytes.
 
 use super::answer::answer;
 use super::worked;
-use crate::program::worked::cases;
+use crate::program::worked::Cases;
 
 /// A label, and the name of a worked input (`worked.rs`).
 const CASES: &[(&str, &str)] = &[
@@ -25,13 +26,13 @@ const CASES: &[(&str, &str)] = &[
     ("512 lines, the last one bad", "512 lines, the last one bad"),
 ];
 
-/// What the program is expected to write.
-pub fn text() -> String {
+/// All of one sort.
+pub fn by_sort() -> Vec<Cases> {
     let worked = worked::all();
     let input = |name: &str| worked.iter().find(|input| input.0 == name).expect("a worked input").clone();
     let labelled = |(label, name): &(&str, &str)| {
         let (_, bytes, expected) = input(name);
         (label.to_string(), bytes, expected)
     };
-    cases(&CASES.iter().map(labelled).collect::<Vec<_>>(), answer)
+    vec![Cases { sort: 'b', inputs: CASES.iter().map(labelled).collect(), answer }]
 }

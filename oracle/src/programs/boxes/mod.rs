@@ -33,7 +33,7 @@ pub const PROGRAM: Program = Program {
     kinds: KINDS,
     kind,
     shown: program::printable,
-    cases: cases::text,
+    cases: cases::by_sort,
     checks: CHECKS,
 };
 

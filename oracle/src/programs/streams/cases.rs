@@ -1,9 +1,10 @@
 //! The cases of the program `common_cases`: streams at the edges of what the program `common` reads. That
-//! program hands each of them to the library function that `common` calls. For each it writes a line
-//! `case LABEL` and then the answer, just as `common` would write it. What it is expected to write is
-//! printed from here: the cases in this order, each with the reference's answer to its bytes. Each answer is
-//! worked by hand too, and `oracle/check` holds the reference to it. The last of them, `record NAME`, are handed to the function that reads one record: what they answer is the rectangle
-//! that is handed out, written as a list of one piece is, or the refusal.
+//! program reads them from its standard input, and hands each of them to the library function that `common`
+//! calls. For each it writes a line `case LABEL` and then the answer, just as `common` would write it. What it
+//! reads and what it is expected to write is printed from here: the cases in this order, each with the
+//! reference's answer to its bytes. Each answer is worked by hand too, and `oracle/check` holds the reference to
+//! it. The last of them, `record NAME`, are handed to the function that reads one record: what they answer is
+//! the rectangle that is handed out, written as a list of one piece is, or the refusal.
 //!
 //! A rectangle has the latitudes [0, 1] and the longitudes given, and "good" is a record of [-1, 1], unless
 //! something else is said. Numbers of 16 digits are bit patterns. P is first, middle and last, in turn; the
@@ -47,7 +48,7 @@ use super::answer::{answer, marked, record, record_read, RECORD};
 use crate::base::roles::{Rect, EMPTY, NEXT_TO_SEAM};
 use crate::kind::worked::words;
 use crate::kinds::common::question::MOST_RECTS;
-use crate::program::worked::{self, WorkedInput as Case};
+use crate::program::worked::{Cases, WorkedInput as Case};
 
 const WRONG_MARK: [u8; 2] = [0x52, 0x30];
 
@@ -79,9 +80,12 @@ const LONGITUDES: &[(&str, &[[f64; 2]], &str)] = &[
     ("three zones", &[[-1.0, 1.0], [1.0, -1.0], [-2.0, 2.0]], "pieces 2; 0.0 1.0 -1.0 -1.0; 0.0 1.0 1.0 1.0"),
 ];
 
-/// What the program is expected to write.
-pub fn text() -> String {
-    worked::cases(&all(), answer) + &worked::cases(&records(), record_read)
+/// Streams, and records by themselves.
+pub fn by_sort() -> Vec<Cases> {
+    vec![
+        Cases { sort: 's', inputs: all(), answer },
+        Cases { sort: 'r', inputs: records(), answer: record_read },
+    ]
 }
 
 pub fn all() -> Vec<Case> {

@@ -32,7 +32,7 @@ pub const PROGRAM: Program = Program {
     kinds: KINDS,
     kind,
     shown: program::hex,
-    cases: cases::text,
+    cases: cases::by_sort,
     checks: CHECKS,
 };
 

@@ -8,7 +8,7 @@ use lib.ListN.{length, take}
 use Rattle.s1.specs.declared.interval.Interval.{Interval}
 use Rattle.s1.specs.Circle.{isFull, isEmpty}
 use Rattle.arcs.specs.Clipping.{whole}
-use Rattle.arcs.specs.Arrays.{zip}
+use Rattle.sort.specs.Arrays.{zip}
 use Rattle.arcs.proofs.Turns.{whole-is, step-full, step-first, step-rest, first-one}
 use borrow.Author.Needs.{needs}
 use Rattle.arcs.proofs.clip.clip_one.Statement.{statement}

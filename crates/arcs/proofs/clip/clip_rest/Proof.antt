@@ -4,7 +4,7 @@ use mathlib.Core.List.{List}
 use native.Mathlib.Omega.{arith}
 use lib.ListN.{take}
 use Rattle.s1.specs.declared.interval.Interval.{Interval}
-use Rattle.arcs.specs.Arrays.{zip}
+use Rattle.sort.specs.Arrays.{zip}
 use Rattle.arcs.proofs.Turns.{clip-open, clip-cut}
 use borrow.Author.Needs.{needs}
 use Rattle.arcs.proofs.clip.clip_rest.Statement.{statement}

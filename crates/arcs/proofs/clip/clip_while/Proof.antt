@@ -4,7 +4,7 @@ use Prim.Native.Nat.{_+_, _-_, _≤_}
 use native.Mathlib.Omega.{arith}
 use lib.ListN.{length, drop, take}
 use Rattle.arcs.specs.Clipping.{steps}
-use Rattle.arcs.specs.Arrays.{zip}
+use Rattle.sort.specs.Arrays.{zip}
 use Rattle.arcs.proofs.Turns.{clipped-turn}
 use borrow.Author.Needs.{needs}
 use Rattle.arcs.proofs.clip.clip_while.Statement.{statement}

@@ -10,8 +10,9 @@ use lib.Ieee.{nan}
 use Rattle.s1.specs.declared.interval.Interval.{Interval}
 use Rattle.arcs.specs.CommonArcs.{someHolds}
 use Rattle.arcs.specs.Clipping.{cut, endAt, sooner}
-use Rattle.arcs.specs.Arrays.{zip}
-use Rattle.arcs.proofs.Turns.{zip-length, cut-turn, open-turn, end-turn, past-few, cut-end, open-end, end-end}
+use Rattle.sort.specs.Arrays.{zip}
+use Rattle.sort.proofs.Arrays.{zip-length}
+use Rattle.arcs.proofs.Turns.{cut-turn, open-turn, end-turn, past-few, cut-end, open-end, end-end}
 use borrow.Author.Needs.{needs}
 use Rattle.arcs.proofs.clip.cut_all.Statement.{statement}
 use Rattle.arcs.proofs.clip.cut_all.Tie as tie

@@ -8,7 +8,7 @@ use native.Mathlib.Omega.{arith}
 use lib.ListN.{length, drop, take, length-set}
 use Rattle.s1.specs.declared.interval.Interval.{Interval}
 use Rattle.arcs.specs.Clipping.{insert}
-use Rattle.arcs.specs.Arrays.{zip}
+use Rattle.sort.specs.Arrays.{zip}
 use Rattle.arcs.proofs.Insertion.{walk}
 use Rattle.arcs.proofs.Tests.{off, on}
 use Rattle.arcs.proofs.Turns.{put-move, put-past, put-same, put-end}

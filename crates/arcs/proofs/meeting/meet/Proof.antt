@@ -10,7 +10,8 @@ use Rattle.order.proofs.Ranks.{and-l, and-r}
 use Rattle.s1.specs.declared.interval.Interval.{Interval}
 use Rattle.arcs.specs.Clipping.{common}
 use Rattle.arcs.specs.Kinds.{rises, met}
-use Rattle.arcs.specs.Arrays.{zip, Met}
+use Rattle.sort.specs.Arrays.{zip}
+use Rattle.arcs.specs.Arrays.{Met}
 use Rattle.arcs.proofs.Turns.{room-of}
 use Rattle.arcs.proofs.Rising.{left-common}
 use borrow.Author.Needs.{needs}

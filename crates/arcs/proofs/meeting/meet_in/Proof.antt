@@ -7,8 +7,9 @@ use native.Mathlib.Omega.{arith}
 use lib.ListN.{length, take, length-set}
 use Rattle.s1.specs.declared.interval.Interval.{Interval}
 use Rattle.arcs.specs.Clipping.{steps}
-use Rattle.arcs.specs.Arrays.{zip}
-use Rattle.arcs.specs.Permutations.{same}
+use Rattle.sort.specs.Arrays.{zip}
+use Rattle.sort.specs.Permutations.{same}
+use Rattle.sort.proofs.Arrays.{holding}
 use Rattle.arcs.proofs.Turns.{first-one, room-as}
 use borrow.Author.Needs.{needs}
 use Rattle.arcs.proofs.meeting.meet_in.Statement.{statement}
@@ -116,7 +117,8 @@ returns-3 c =
     let at-sweep = c .before .before .before .before in
     let o = at-sweep .before .before .before .before .before .before .before .before .before .sort in
     let s = at-sweep .sweep .ensures in
-    record { others = _; permuted = o .ensures; is = s .is; few = s .few }
+    let r = c .before .before .before .before .before .before .before .before .before .before .before .before .before .before .before .before .before .before .before .before .before .before .before .before .before .before .before .before .before .before .before .before .pre in
+    record { others = _; permuted = o .ensures .same-arcs (holding _ _ _ (r .most) (r .arcs) (r .arcs-even)); is = s .is; few = s .few }
 
 pub meet-in-spec : {M : Type 1} → statement M
 meet-in-spec =

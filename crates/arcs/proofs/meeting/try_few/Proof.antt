@@ -4,7 +4,7 @@ use mathlib.Core.List.{List}
 use native.Mathlib.Omega.{arith}
 use lib.ListN.{take}
 use Rattle.s1.specs.declared.interval.Interval.{Interval}
-use Rattle.arcs.specs.Arrays.{zip}
+use Rattle.sort.specs.Arrays.{zip}
 use Rattle.arcs.proofs.Turns.{length-first, clipped-end}
 use borrow.Author.Needs.{needs}
 use Rattle.arcs.proofs.meeting.try_few.Statement.{statement}

@@ -5,7 +5,7 @@ use Prim.Native.Nat.{_<_}
 use native.Mathlib.Omega.{arith}
 use lib.ListN.{length, take}
 use Rattle.s1.specs.declared.interval.Interval.{Interval}
-use Rattle.arcs.specs.Arrays.{zip}
+use Rattle.sort.specs.Arrays.{zip}
 use Rattle.arcs.proofs.Turns.{length-first, clipped-end}
 use borrow.Author.Needs.{needs}
 use Rattle.arcs.proofs.sweep.clip_arcs.Statement.{statement}

@@ -5,9 +5,9 @@ use Prim.Native.Nat.{_+_}
 use native.Mathlib.Omega.{arith}
 use lib.ListN.{take, drop}
 use Rattle.s1.specs.declared.interval.Interval.{Interval}
-use Rattle.lists.specs.Lists.{All}
+use Rattle.entries.specs.Lists.{All}
 use Rattle.arcs.specs.Clipping.{steps}
-use Rattle.arcs.specs.Arrays.{zip}
+use Rattle.sort.specs.Arrays.{zip}
 use Rattle.arcs.specs.Inside.{Settled}
 use Rattle.arcs.proofs.Turns.{room-as}
 use borrow.Author.Needs.{needs}

@@ -6,7 +6,7 @@ use native.Mathlib.Omega.{arith}
 use lib.ListN.{take, getD}
 use lib.Ieee.{nan}
 use Rattle.s1.specs.Circle.{ends}
-use Rattle.arcs.specs.Arrays.{zip}
+use Rattle.sort.specs.Arrays.{zip}
 use Rattle.arcs.specs.Inside.{Spared, Skipped}
 use Rattle.arcs.proofs.Tests.{on}
 use Rattle.arcs.proofs.Lasts.{skipped-turn}

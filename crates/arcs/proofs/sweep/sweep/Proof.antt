@@ -12,7 +12,7 @@ use Rattle.consts.specs.Constants.{NEG-PI}
 use Rattle.s1.specs.declared.interval.Interval.{Interval}
 use Rattle.s1.specs.Circle.{ends}
 use Rattle.arcs.specs.Clipping.{steps}
-use Rattle.arcs.specs.Arrays.{zip}
+use Rattle.sort.specs.Arrays.{zip}
 use Rattle.arcs.proofs.Tests.{off}
 use Rattle.arcs.proofs.Turns.{first-one, clipped-turn, room-as}
 use Rattle.arcs.proofs.Lasts.{full-first, left-is}

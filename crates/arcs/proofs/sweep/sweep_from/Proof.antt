@@ -12,7 +12,7 @@ use Rattle.order.proofs.Ranks.{and-l, and-r}
 use Rattle.s1.specs.declared.interval.Interval.{Interval}
 use Rattle.s1.specs.Circle.{ends}
 use Rattle.arcs.specs.Clipping.{steps}
-use Rattle.arcs.specs.Arrays.{zip}
+use Rattle.sort.specs.Arrays.{zip}
 use Rattle.arcs.specs.Inside.{Room, Spared}
 use Rattle.arcs.proofs.Turns.{room-as}
 use Rattle.arcs.proofs.Lasts.{put-last, closed-turn, left-is}

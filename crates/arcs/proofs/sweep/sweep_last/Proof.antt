@@ -2,7 +2,6 @@
 -- proofs/Lasts.antt. Assumes nothing.
 use mathlib.Core.Path.{_≡_, refl, subst}
 use mathlib.Core.Bool.{Bool}
-use mathlib.Core.Logic.{⊎-elim}
 use Prim.Native.Nat.{ℕ, _+_, _-_, _<_}
 use native.Mathlib.Omega.{arith}
 use lib.ListN.{length, take, getD, length-set}
@@ -10,10 +9,10 @@ use lib.Ieee.{nan}
 use Rattle.order.proofs.Ranks.{and-l, and-r}
 use Rattle.s1.specs.declared.interval.Interval.{Interval}
 use Rattle.s1.specs.Circle.{ends}
-use Rattle.arcs.specs.Arrays.{zip}
+use Rattle.sort.specs.Arrays.{zip}
 use Rattle.arcs.specs.Inside.{Spared, Passed, IsSwept}
 use Rattle.arcs.proofs.Tests.{on}
-use Rattle.arcs.proofs.Lasts.{parted-turn, moved-turn}
+use Rattle.arcs.proofs.Lasts.{swept-turn}
 use borrow.Author.Needs.{needs}
 use Rattle.arcs.proofs.sweep.sweep_last.Statement.{statement}
 use Rattle.arcs.proofs.sweep.sweep_last.Tie as tie
@@ -74,8 +73,8 @@ mul-hi c = search needs
 slice-write-hi : tie.Need-slice-write-hi Inv-loop μ-loop
 slice-write-hi c = search needs
 
-add-f : tie.Need-add-f Inv-loop μ-loop
-add-f c = search needs
+past-requires : tie.Need-past-requires Inv-loop μ-loop
+past-requires c κs = search needs
 
 max-requires : tie.Need-max-requires Inv-loop μ-loop
 max-requires c κs = search needs
@@ -88,8 +87,8 @@ loop-less c = search needs
 
 loop-again : tie.Need-loop-again Inv-loop μ-loop
 loop-again c =
-    let at-parts = c .before in
-    let at-test = at-parts .before .before .before in
+    let at-past = c .before in
+    let at-test = at-past .before .before .before in
     let at-passes = at-test .before in
     let at-spares = at-passes .before in
     let in-loop = at-spares .before .before .before in
@@ -106,10 +105,7 @@ loop-again c =
     let u = subst (λ (r : Bool). Passed a (v .x) r) (and-r (s .result) (p .result) t) (p .ensures) in
     let room = under (r .pieces) (v .inv .1) in
     let h = in-loop .loop-test .taken in
-    ⊎-elim
-    (λ z. rw (z .1, z .2, z .3) (parted-turn (w .west .now) (w .east .now) (v .lo) (v .hi) (w .first) (w .n) (w .start) (v .k) (v .f) (v .b) (v .x) h (r .arcs) (r .arcs-even) room (v .inv .2) (v .inv .0) o u (c .max .result) (c .max .ensures) (z .0 .taken), simp length-set (v .inv .1), simp length-set (v .inv .2), simp length-set (v .inv .3)))
-    (λ z. rw (z .1, z .2, z .3) (moved-turn (w .west .now) (w .east .now) (v .lo) (v .hi) (w .first) (w .n) (w .start) (v .k) (v .f) (v .b) (v .x) h (r .arcs) (r .arcs-even) room (v .inv .2) (v .inv .0) o u (c .max .result) (c .max .ensures) (z .0 .left), v .inv .1, v .inv .2, v .inv .3))
-    (at-parts .if2 .came)
+    (swept-turn (w .west .now) (w .east .now) (v .lo) (v .hi) (w .first) (w .n) (w .start) (v .k) (v .f) (v .b) (v .x) h (r .arcs) (r .arcs-even) room (v .inv .2) (v .inv .0) o u (c .max .result) (c .max .ensures) (at-past .past .result) (at-past .past .ensures), simp length-set (v .inv .1), simp length-set (v .inv .2), simp length-set (v .inv .3))
 
 same-length-3 : tie.Need-same-length-3 Inv-loop μ-loop
 same-length-3 c = search needs
@@ -140,7 +136,7 @@ sweep-last-spec =
     slice-write-lo
     mul-hi
     slice-write-hi
-    add-f
+    past-requires
     max-requires
     add-k
     loop-less

@@ -3,9 +3,9 @@ use borrow.Author.Needs.{needs}
 use mir.Syntax.{w64}
 use mir.ValLaws.{toZ-ofZ}
 use lib.IntN.{pos, negℤ}
-use Rattle.bbox.specs.Grammar.{signed}
+use Rattle.bbox_text.specs.Grammar.{signed}
 use Rattle.bbox.specs.Reading.{gotOf}
-use Rattle.bbox.proofs.Fits.{small-is, minus-is, minus-fits}
+use Rattle.bounds.proofs.Fits.{small-is, minus-is, minus-fits}
 use Rattle.bbox.proofs.number.got.Statement.{statement}
 use Rattle.bbox.proofs.number.got.Tie as tie
 

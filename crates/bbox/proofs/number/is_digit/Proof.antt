@@ -1,6 +1,6 @@
 -- `bbox::number::is_digit`: both comparisons are the definition's. Assumes nothing.
 use borrow.Author.Needs.{needs}
-use Rattle.bbox.specs.Grammar.{isDigit}
+use Rattle.bbox_text.specs.Grammar.{isDigit}
 use Rattle.bbox.proofs.number.is_digit.Statement.{statement}
 use Rattle.bbox.proofs.number.is_digit.Tie as tie
 

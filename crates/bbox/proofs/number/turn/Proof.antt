@@ -3,8 +3,8 @@ use native.Mathlib.Omega.{arith}
 use mathlib.Core.Path.{_≡_, sym, _∙_}
 use mathlib.Core.Bool.{true}
 use borrow.Author.Needs.{needs}
-use Rattle.bbox.proofs.Positions.{digit-high, digit-low}
-use Rattle.bbox.specs.Grammar.{isDigit}
+use Rattle.bbox_text.proofs.Digits.{digit-high, digit-low}
+use Rattle.bbox_text.specs.Grammar.{isDigit}
 use Rattle.bbox.specs.Reading.{turnOf}
 use Rattle.bbox.proofs.number.turn.Statement.{statement}
 use Rattle.bbox.proofs.number.turn.Tie as tie

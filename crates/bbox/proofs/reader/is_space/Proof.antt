@@ -1,6 +1,6 @@
 -- `bbox::reader::is_space`: the four comparisons are the definition's. Assumes nothing.
 use borrow.Author.Needs.{needs}
-use Rattle.bbox.specs.Grammar.{isSpace}
+use Rattle.bbox_text.specs.Grammar.{isSpace}
 use Rattle.bbox.proofs.reader.is_space.Statement.{statement}
 use Rattle.bbox.proofs.reader.is_space.Tie as tie
 

@@ -7,7 +7,7 @@ use borrow.Author.Needs.{needs}
 use lib.ListN.{set, length-set}
 use lib.Seq.{sets}
 use lib.IntN.{ℤ}
-use Rattle.bbox.specs.declared.bounds.Bounds.{Bounds}
+use Rattle.bounds.specs.declared.bounds.Bounds.{Bounds}
 use Rattle.lists.proofs.RectLists.{four-stores}
 use Rattle.box_lines.specs.Answers.{wholes}
 use Rattle.box_lines.proofs.gather.put_box.Statement.{statement}

@@ -4,7 +4,7 @@ use native.Mathlib.Omega.{arith}
 use borrow.Author.Needs.{needs}
 use lib.ListN.{length}
 use Rattle.lists.proofs.Doubles.{Doubles}
-use Rattle.lists.proofs.Lengths.{whole-multiple}
+use Rattle.entries.proofs.Lengths.{whole-multiple}
 use Rattle.growth.proofs.Turns.{taken, passed, start-refused, start-read}
 use Rattle.growth.proofs.Laws.{start-valid, list-refused}
 use Rattle.growth.proofs.growth.grow.Statement.{statement}

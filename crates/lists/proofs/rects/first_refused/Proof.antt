@@ -8,11 +8,11 @@ use lib.Ieee.{Float}
 use Rattle.s2.specs.declared.rect.Rect.{Rect}
 use Rattle.s2.specs.declared.reading.One.{One}
 use Rattle.s2.specs.Reading.{readOne}
-use Rattle.lists.specs.Lists.{All}
+use Rattle.entries.specs.Lists.{All}
 use Rattle.lists.specs.Rects.{rectsOf, rectAt}
 use Rattle.lists.specs.Refused.{ofRect}
 use Rattle.lists.proofs.RectLists.{length-rects, rect-entry}
-use Rattle.lists.proofs.Refused.{Good, one-passed, all-passed, one-stopped}
+use Rattle.entries.proofs.First.{Good, one-passed, all-passed, one-stopped}
 use borrow.Author.Needs.{needs}
 use Rattle.lists.proofs.rects.first_refused.Statement.{statement}
 use Rattle.lists.proofs.rects.first_refused.Tie as tie

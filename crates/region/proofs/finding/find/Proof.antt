@@ -4,7 +4,7 @@ use mathlib.Core.Bool.{true, false}
 use native.Mathlib.Omega.{arith}
 use lib.ListN.{length}
 use Rattle.r1.specs.Line as line
-use Rattle.arcs.specs.Arrays.{zip}
+use Rattle.sort.specs.Arrays.{zip}
 use Rattle.arcs.specs.Inside.{Room}
 use Rattle.arcs.proofs.Turns.{room-is}
 use Rattle.region.proofs.Findings.{none-found, some-found, both-read}

@@ -14,7 +14,7 @@ use Rattle.s2.specs.Reading.{readOne}
 use Rattle.lists.specs.Rects.{rectsOf, rectAt, asReadAll}
 use Rattle.lists.specs.Refused.{firstRefused}
 use Rattle.arcs.specs.Kinds.{risen, crossing}
-use Rattle.arcs.specs.Arrays.{zip}
+use Rattle.sort.specs.Arrays.{zip}
 use Rattle.region.specs.Region.{bandFrom, lngs}
 use Rattle.region.proofs.Turns.{band-turn, refused-here, accepted-here, band-end, accepted-end, arcsFrom, risen-turn, risen-past, risen-end, taken-turn, taken-past, taken-end}
 use borrow.Author.Needs.{needs}

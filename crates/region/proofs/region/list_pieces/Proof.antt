@@ -7,7 +7,7 @@ use lib.ListN.{length, take, drop}
 use lib.Ieee.{Float}
 use Rattle.r1.specs.declared.interval.Interval.{Interval as Line}
 use Rattle.lists.specs.Rects.{numbersOf}
-use Rattle.arcs.specs.Arrays.{zip}
+use Rattle.sort.specs.Arrays.{zip}
 use Rattle.arcs.proofs.Turns.{length-first}
 use Rattle.region.specs.Region.{across}
 use Rattle.region.proofs.Written.{out-nothing}

@@ -5,7 +5,7 @@ use mathlib.Core.List.{List}
 use native.Mathlib.Omega.{arith}
 use lib.ListN.{length}
 use Rattle.s2.specs.declared.rect.Rect.{Rect}
-use Rattle.lists.specs.Lists.{whole}
+use Rattle.entries.specs.Lists.{whole}
 use Rattle.region.specs.Inside.{IsWritten}
 use Rattle.region.proofs.Cases.{good, bad-entry, refused, listed}
 use borrow.Author.Needs.{needs}
