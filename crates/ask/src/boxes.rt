@@ -1,13 +1,14 @@
 // The questions `bbox.`: a bbox array as a box, a box as a bbox array, and a box as a rectangle. A box is
 // asked with as its four whole numbers: west, south, east and north.
+use crate::parse;
+use crate::parse::Whole;
+use crate::print;
+use crate::rect::rect;
+use crate::reply::Reply;
 use bounds::Bounds;
-use protocol::parse;
-use protocol::parse::Whole;
-use protocol::reply::Reply;
-use questions::rect::rect;
 ghost use Prim.Native.Nat.{_+_, _≤_};
 ghost use lib.ListN.{length};
-ghost use Rattle.replies.specs.Room.{room};
+ghost use Rattle.ask.specs.Room.{room};
 
 // The most bytes of a text to read: a line has no room for the digits of more.
 const LONGEST: usize = 100000;
@@ -33,10 +34,10 @@ pub(crate) fn read(s: &[u8], at: usize, out: &mut [u8]) -> usize
     let mut bytes = [0u8; LONGEST];
     let count = parse::text(s, &mut bytes);
     if count > LONGEST {
-        return replies::unknown(at, out);
+        return print::unknown(at, out);
     }
     let a = bbox::read(&bytes[..count]);
-    replies::bounds(a.refusal, a.value, at, out)
+    print::bounds(a.refusal, a.value, at, out)
 }
 
 // The same for `bbox.write`.
@@ -46,7 +47,7 @@ pub(crate) fn write(s: &[u8], at: usize, out: &mut [u8]) -> usize
 {
     let n = parse::room_of(s);
     let Asked::Of(b) = bounds(s, n.end) else {
-        return replies::unknown(at, out);
+        return print::unknown(at, out);
     };
     written(b, n.count, at, out)
 }
@@ -57,7 +58,7 @@ fn written(b: Bounds, n: usize, at: usize, out: &mut [u8]) -> usize
     ensures { λ r. ⌜ r ≤ length (now (out .exit)) ⌝ }
 {
     if n > MOST {
-        return replies::unknown(at, out);
+        return print::unknown(at, out);
     }
     let mut x = [BEFORE; MOST];
     put(b, &mut x[..n], at, out)
@@ -70,7 +71,7 @@ fn put(b: Bounds, x: &mut [u8], at: usize, out: &mut [u8]) -> usize
     ensures { λ r. ⌜ r ≤ length (now (out .exit)) ⌝ }
 {
     let w = bbox_text::write(b, x);
-    replies::text(w.refusal, w.count, x, at, out)
+    print::text(w.refusal, w.count, x, at, out)
 }
 
 // The answer to `bbox.rect`, of which s is what follows the name.

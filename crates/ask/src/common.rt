@@ -1,11 +1,12 @@
 // The question `common`: the room of the output list in decimal, a bar, and the numbers of a list of
 // rectangles. Its answer is as long as the room, so it goes to the output at once and not by way of a
 // reply.
-use protocol::parse;
+use crate::parse;
+use crate::print;
 use region::common_region;
 ghost use Prim.Native.Nat.{_+_, _≤_};
 ghost use lib.ListN.{length};
-ghost use Rattle.replies.specs.Room.{room};
+ghost use Rattle.ask.specs.Room.{room};
 
 // The most numbers of either list: one rectangle more than the operation takes, so that its refusal of
 // a longer list can be asked for.
@@ -30,18 +31,18 @@ fn listed(n: usize, s: &[u8], at: usize, out: &mut [u8]) -> usize
     ensures { λ r. ⌜ r ≤ length (now (out .exit)) ⌝ }
 {
     if n > MOST {
-        return replies::unknown(at, out);
+        return print::unknown(at, out);
     }
     if s.len() < 2 {
-        return replies::unknown(at, out);
+        return print::unknown(at, out);
     }
     if !check::same(&s[0..2], b" |") {
-        return replies::unknown(at, out);
+        return print::unknown(at, out);
     }
     let mut list = [0.0; MOST];
     let count = parse::numbers(&s[2..], &mut list);
     if count > MOST {
-        return replies::unknown(at, out);
+        return print::unknown(at, out);
     }
     found(&list[..count], n, at, out)
 }
@@ -63,5 +64,5 @@ fn put(list: &[f64], x: &mut [f64], at: usize, out: &mut [u8]) -> usize
     ensures { λ r. ⌜ r ≤ length (now (out .exit)) ⌝ }
 {
     let p = common_region(list, x);
-    replies::pieces(p.refusal, p.count, x, at, out)
+    print::pieces(p.refusal, p.count, x, at, out)
 }

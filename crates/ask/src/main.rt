@@ -2,24 +2,29 @@
 // order. A question is an operation's name and the bit patterns of its operands, an answer the refusal
 // number and the result; a line that is no question is answered `?`. docs/ASK.md has every question.
 //
-// This file has the stream of lines. common.rt, points.rt and boxes.rt have the questions of lists and texts.
-// The crates `protocol`, `replies` and `questions` are parts of this program too: how a line is read, how an
-// answer is written, and the questions whose operands are numbers.
+// This file has the stream of lines. parse.rt reads a line, a file for each layer (line.rt, circle.rt,
+// rect.rt, common.rt, points.rt, boxes.rt) has that layer's questions, and print.rt writes an answer
+// (reply.rt) as text.
 mod boxes;
+mod circle;
 mod common;
+mod line;
+mod parse;
 mod points;
+mod print;
+mod rect;
+mod reply;
 
+use crate::parse::asks;
+use crate::print::ROOM;
+use crate::reply::Reply;
 use libc::STDERR_FILENO;
 use libc::STDIN_FILENO;
 use libc::STDOUT_FILENO;
-use protocol::parse;
-use protocol::reply::Reply;
-use questions::rect;
-use replies::ROOM;
 ghost use Prim.Native.Nat.{_+_, _≤_};
 ghost use lib.ListN.{length};
 ghost use Rattle.io.specs.Counts.{Counts};
-ghost use Rattle.replies.specs.Room.{room};
+ghost use Rattle.ask.specs.Room.{room};
 
 // A line of more bytes is no question.
 const LONGEST: usize = 200000;
@@ -125,7 +130,7 @@ fn answer_line(s: &[u8], at: usize, out: &mut [u8]) -> usize
 {
     let from = make_room(at, out);
     if s.len() > LONGEST {
-        return replies::unknown(from, out);
+        return print::unknown(from, out);
     }
     let end = parse::name_end(s);
     let name = &s[..end];
@@ -139,7 +144,7 @@ fn answer_line(s: &[u8], at: usize, out: &mut [u8]) -> usize
     if check::same(name, b"bbox.write") {
         return boxes::write(rest, from, out);
     }
-    replies::reply(answer(name, rest), from, out)
+    print::reply(answer(name, rest), from, out)
 }
 
 // Writes the answers that wait where another one may not fit behind them.
@@ -176,5 +181,16 @@ fn answer(name: &[u8], s: &[u8]) -> Reply {
     if scans | check::same(name, b"growth") {
         return points::reply(scans, s);
     }
-    questions::answer(name, s)
+    of_numbers(name, s)
+}
+
+// The answer to a question with numbers alone.
+fn of_numbers(name: &[u8], s: &[u8]) -> Reply {
+    let mut x = [0.0; parse::MOST];
+    let count = parse::numbers(s, &mut x);
+    if asks(name, count, b"remainder", 1) {
+        return reply::number(consts::remainder(x[0]));
+    }
+    let intervals = reply::either(line::reply(name, count, x), circle::reply(name, count, x));
+    reply::either(intervals, rect::reply(name, count, x))
 }

@@ -1,11 +1,11 @@
 // The questions `growth` and `scan`: a rectangle's four numbers, a bar, and the numbers of a list of
 // points. They are asked alike, and differ in what is done with the list.
+use crate::parse;
+use crate::rect::FOUR;
+use crate::rect::bounds;
+use crate::rect::rect;
+use crate::reply::Reply;
 use growth::grow;
-use protocol::parse;
-use protocol::reply::Reply;
-use questions::rect::FOUR;
-use questions::rect::bounds;
-use questions::rect::rect;
 use s2::rect::Rect;
 use scan::scan;
 

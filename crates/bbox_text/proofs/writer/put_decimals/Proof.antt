@@ -27,7 +27,17 @@ put-place-requires-7 : tie.Need-put-place-requires-7
 put-place-requires-7 c κs = search needs
 
 returns : tie.Need-returns
-returns c = (grows-as (grows-both (c .before .before .before .before .before .before .put-place .ensures .0) (grows-both (c .before .before .before .before .before .put-place2 .ensures .0) (grows-both (c .before .before .before .before .put-place3 .ensures .0) (grows-both (c .before .before .before .put-place4 .ensures .0) (grows-both (c .before .before .put-place5 .ensures .0) (grows-both (c .before .put-place6 .ensures .0) (c .put-place7 .ensures .0))))))) (seven (c .before .before .before .before .before .before .before .args .f)), omega arith)
+returns c =
+    let at-sixth = c .before in
+    let at-fifth = at-sixth .before in
+    let at-fourth = at-fifth .before in
+    let at-third = at-fourth .before in
+    let at-second = at-third .before in
+    let at-first = at-second .before in
+    let last-two = grows-both (at-sixth .put-place6 .ensures .0) (c .put-place7 .ensures .0) in
+    let last-four = grows-both (at-fourth .put-place4 .ensures .0) (grows-both (at-fifth .put-place5 .ensures .0) last-two) in
+    let last-six = grows-both (at-second .put-place2 .ensures .0) (grows-both (at-third .put-place3 .ensures .0) last-four) in
+    (grows-as (grows-both (at-first .put-place .ensures .0) last-six) (seven (at-first .before .args .f)), omega arith)
 
 pub put-decimals-spec : {M : Type 1} → statement M
 put-decimals-spec =

@@ -27,7 +27,15 @@ push-requires-3 : tie.Need-push-requires-3
 push-requires-3 c κs = search needs
 
 returns-2 : tie.Need-returns-2
-returns-2 c = (grows-as (grows-both (c .before .before .push2 .ensures) (c .push3 .ensures)) (whole-two (c .before .before .before .before .before .before .args .w) (c .before .before .before .glyph2 .result) (c .before .glyph3 .result) (omega arith) (omega arith) (c .before .before .before .glyph2 .ensures) (c .before .glyph3 .ensures)), omega (arith, c .push3 .ensures .long, c .before .before .push2 .ensures .long))
+returns-2 c =
+    let second = c .push3 .ensures in
+    let at-second = c .before in
+    let first = at-second .before .push2 .ensures in
+    let at-first = at-second .before .before in
+    let w = at-first .before .before .before .args .w in
+    let g = at-first .glyph2 in
+    let h = at-second .glyph3 in
+    (grows-as (grows-both first second) (whole-two w (g .result) (h .result) (omega arith) (omega arith) (g .ensures) (h .ensures)), omega (arith, second .long, first .long))
 
 glyph-requires-4 : tie.Need-glyph-requires-4
 glyph-requires-4 c κs = search needs
@@ -48,7 +56,19 @@ push-requires-6 : tie.Need-push-requires-6
 push-requires-6 c κs = search needs
 
 returns-3 : tie.Need-returns-3
-returns-3 c = (grows-as (grows-both (c .before .before .before .before .push4 .ensures) (grows-both (c .before .before .push5 .ensures) (c .push6 .ensures))) (whole-three (c .before .before .before .before .before .before .before .before .args .w) (c .before .before .before .before .before .glyph4 .result) (c .before .before .before .glyph5 .result) (c .before .glyph6 .result) (omega arith) (omega arith) (c .before .before .before .before .before .glyph4 .ensures) (c .before .before .before .glyph5 .ensures) (c .before .glyph6 .ensures)), omega (arith, c .push6 .ensures .long, c .before .before .push5 .ensures .long, c .before .before .before .before .push4 .ensures .long))
+returns-3 c =
+    let third = c .push6 .ensures in
+    let at-third = c .before in
+    let second = at-third .before .push5 .ensures in
+    let at-second = at-third .before .before in
+    let first = at-second .before .push4 .ensures in
+    let at-first = at-second .before .before in
+    let w = at-first .before .before .before .args .w in
+    let f = at-first .glyph4 in
+    let g = at-second .glyph5 in
+    let h = at-third .glyph6 in
+    let digits = whole-three w (f .result) (g .result) (h .result) (omega arith) (omega arith) (f .ensures) (g .ensures) (h .ensures) in
+    (grows-as (grows-both first (grows-both second third)) digits, omega (arith, third .long, second .long, first .long))
 
 pub put-whole-spec : {M : Type 1} → statement M
 put-whole-spec =

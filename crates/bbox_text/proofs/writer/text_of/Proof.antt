@@ -34,14 +34,22 @@ returns c =
     let s : SFits w64 (b .south) = search needs in
     let e : SFits w64 (b .east) = search needs in
     let n : SFits w64 (b .north) = search needs in
+    let north = c .put-element4 .ensures in
+    let at-east = c .before .before in
+    let east = at-east .put-element3 .ensures in
+    let at-south = at-east .before .before in
+    let south = at-south .put-element2 .ensures in
+    let at-west = at-south .before .before in
+    let west = at-west .put-element .ensures in
+    let bracket = at-west .before .before .push .ensures in
     held
-    (grows-both (c .before .before .before .before .before .before .before .before .push .ensures)
-    (grows-both (grows-as (c .before .before .before .before .before .before .put-element .ensures .0) (ap (λ (k : ℤ). elementText k 44) (toZ-ofZ w64 (b .west) w)))
-    (grows-both (grows-as (c .before .before .before .before .put-element2 .ensures .0) (ap (λ (k : ℤ). elementText k 44) (toZ-ofZ w64 (b .south) s)))
-    (grows-both (grows-as (c .before .before .put-element3 .ensures .0) (ap (λ (k : ℤ). elementText k 44) (toZ-ofZ w64 (b .east) e)))
-    (grows-as (c .put-element4 .ensures .0) (ap (λ (k : ℤ). elementText k 93) (toZ-ofZ w64 (b .north) n)))))))
+    (grows-both bracket
+    (grows-both (grows-as (west .0) (ap (λ (k : ℤ). elementText k 44) (toZ-ofZ w64 (b .west) w)))
+    (grows-both (grows-as (south .0) (ap (λ (k : ℤ). elementText k 44) (toZ-ofZ w64 (b .south) s)))
+    (grows-both (grows-as (east .0) (ap (λ (k : ℤ). elementText k 44) (toZ-ofZ w64 (b .east) e)))
+    (grows-as (north .0) (ap (λ (k : ℤ). elementText k 93) (toZ-ofZ w64 (b .north) n)))))))
     refl
-    (omega (arith, c .before .before .before .before .before .before .before .before .push .ensures .long, c .before .before .before .before .before .before .before .before .push .ensures .size, c .before .before .before .before .before .before .put-element .ensures .1, c .before .before .before .before .before .before .put-element .ensures .0 .size, c .before .before .before .before .put-element2 .ensures .1, c .before .before .before .before .put-element2 .ensures .0 .size, c .before .before .put-element3 .ensures .1, c .before .before .put-element3 .ensures .0 .size, c .put-element4 .ensures .1, c .put-element4 .ensures .0 .size))
+    (omega (arith, bracket .long, bracket .size, west .1, west .0 .size, south .1, south .0 .size, east .1, east .0 .size, north .1, north .0 .size))
 
 pub text-of-spec : {M : Type 1} → statement M
 text-of-spec =

@@ -82,12 +82,20 @@ loop-less c = search needs
 
 loop-again : tie.Need-loop-again Inv-loop μ-loop
 loop-again c =
-    let v = c .before .before .before .before .before .before .before .before .before .before .loop in
-    let s = c .before .before .before .before .before .before .before .before .before .before .before .before .before .before .before .args .s .now in
-    let r = c .before .before .before .before .before .read .result in
-    let e = c .before .put-box2 .ensures in (
-      subst (λ (l : List ℤ). Held s l (c .before .before .before .before .before .before .before .line-end .result + 1) (v .k + 1)) (sym e)
-          (good s (v .list) (v .at) (v .k) (v .inv .0) (c .before .before .before .before .before .before .before .line-end .result) r (omega arith) (omega (arith, c .before .before .before .before .before .before .before .before .if1 .left)) (c .before .before .before .before .before .before .before .line-end .ensures .0) (c .before .before .before .before .before .read .ensures) (v .inv .2) (c .before .before .before .if2 .left)),
+    let at-good = c .before .before .before in
+    let at-read = at-good .before .before in
+    let at-end = at-read .before .before in
+    let in-loop = at-end .before in
+    let at-loop = in-loop .before .before in
+    let v = at-loop .loop in
+    let s = at-loop .before .before .before .before .before .args .s .now in
+    let next = at-end .line-end in
+    let r = at-read .read .result in
+    let e = c .before .put-box2 .ensures in
+    let one-more =
+    good s (v .list) (v .at) (v .k) (v .inv .0) (next .result) r (omega arith) (omega (arith, in-loop .if1 .left)) (next .ensures .0) (at-read .read .ensures)
+    (v .inv .2) (at-good .if2 .left) in (
+      subst (λ (l : List ℤ). Held s l (next .result + 1) (v .k + 1)) (sym e) one-more,
       omega arith,
       ap length e ∙ length-sets (v .list) (4 * (v .k + 1)) (wholes (r .value ∷ [])) ∙ v .inv .2,
     )
