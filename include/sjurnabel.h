@@ -23,10 +23,10 @@
  * empty if lo > hi, and its standard empty one is {1, 0}. The inside of an interval or a rectangle is it without its
  * ends or edges: the full circle has no ends, and a pole is an edge.
  *
- * ANSWERS come by value, the refusal number first: 0, or why there is no answer (enum sjurnabel_refusal). Every
- * number is allowed, NaN and infinity too; what a pointer must be is said below. Nothing aborts, nothing sets errno,
- * nothing is allocated. What stands beside a refusal number is determined as well, and said with each function. The
- * bytes between members have no meaning: compare members, not memory.
+ * ANSWERS come by value, the refusal number first: 0, or why there is no answer (enum sjurnabel_refusal, and in words
+ * sjurnabel_refusal_text). Every number is allowed, NaN and infinity too; what a pointer must be is said below.
+ * Nothing aborts, nothing sets errno, nothing is allocated. What stands beside a refusal number is determined as
+ * well, and said with each function. The bytes between members have no meaning: compare members, not memory.
  *
  * ENVIRONMENT. All that is said here holds where the calling thread's floating-point environment is the one that a
  * process starts with: it rounds to nearest, subnormal numbers are neither flushed to zero nor read as zero, and
@@ -52,6 +52,10 @@
  * call writes is not read or written by another. The largest need of stack is that of
  * sjurnabel_common_region, about 20 kB.
  *
+ * VERSIONS. A change that callers must know, of a layout or of what an answer means, raises the major number and with
+ * it the shared object's name, libsjurnabel.so.MAJOR: a program starts only with a library of the major number that it
+ * was linked with. An addition raises the minor number, anything else the patch.
+ *
  * The calling convention and the layouts are those of x86-64 Linux. A program over the archive is linked with -lm;
  * the shared object brings it along.
  */
@@ -66,20 +70,37 @@
 extern "C" {
 #endif
 
-/* Why something is refused. Where several hold, the one given is the first of: 5; then 1 and 2, operands from
- * left to right and lists from their first record, 1 before 2 in each; 3; 4; 6. The GeoJSON functions alone give 8
- * and 9, 8 before 9, and nothing else. (7 is a program's, for a stream of records.) */
+/* The version of this header, by VERSIONS above: as numbers, and as the text that sjurnabel_version answers where the
+ * library that is linked is of the same version. */
+#define SJURNABEL_VERSION_MAJOR 0
+#define SJURNABEL_VERSION_MINOR 1
+#define SJURNABEL_VERSION_PATCH 0
+#define SJURNABEL_VERSION "0.1.0"
+
+/* The version of the library that is linked: a text of static storage. */
+const char *sjurnabel_version(void);
+
+/* Why something is refused. Where several hold, the one given is the first of: 5; then 1, 21, 22 and 23, operands from
+ * left to right and lists from their first record, in this order in each; 3; 4; 6. The GeoJSON functions alone give 8
+ * and 9, 8 before 9, and nothing else. (There is no 2: 21, 22 and 23 are its parts.) */
 enum sjurnabel_refusal {
-    SJURNABEL_ACCEPTED = 0,     /* the answer stands */
-    SJURNABEL_OUT_OF_REACH = 1, /* a rectangle or an interval has a number out of reach */
-    SJURNABEL_NOT_VALID = 2,    /* its numbers are in reach, but it is not valid */
-    SJURNABEL_BAD_POINT = 3,    /* a point is not valid */
-    SJURNABEL_BAD_MARGIN = 4,   /* a margin, size or error is out of reach; a remainder's x is NaN or beyond 4 PI */
-    SJURNABEL_BAD_LIST = 5,     /* a list's length is no multiple of its record, or over the limit */
-    SJURNABEL_NO_ROOM = 6,      /* out has fewer than four doubles a piece */
-    SJURNABEL_BAD_TEXT = 8,     /* a text is no bbox array */
-    SJURNABEL_BAD_BOX = 9       /* a GeoJSON box is out of range, or none that reading gives */
+    SJURNABEL_ACCEPTED = 0,      /* the answer stands */
+    SJURNABEL_OUT_OF_REACH = 1,  /* a rectangle or an interval has a number out of reach */
+    SJURNABEL_BAD_POINT = 3,     /* a point is not valid */
+    SJURNABEL_BAD_MARGIN = 4,    /* a margin, size or error is out of reach; a remainder's x is NaN or beyond 4 PI */
+    SJURNABEL_BAD_LIST = 5,      /* a list's length is no multiple of its record, or over the limit */
+    SJURNABEL_NO_ROOM = 6,       /* out has fewer than four doubles a piece */
+    SJURNABEL_BAD_RECORD = 7,    /* a stream is not made of whole records: only programs give it, no function here */
+    SJURNABEL_BAD_TEXT = 8,      /* a text is no bbox array */
+    SJURNABEL_BAD_BOX = 9,       /* a GeoJSON box is out of range, or none that reading gives */
+    SJURNABEL_BAD_LATITUDE = 21, /* a rectangle's lat.lo is of size over PI/2, or its lat.hi is over PI/2 */
+    SJURNABEL_BAD_CIRCLE = 22,   /* a circle interval, or a rectangle's lng, is not valid */
+    SJURNABEL_HALF_EMPTY = 23    /* of a rectangle's lat and lng one is empty and the other is not */
 };
+
+/* What a number of the enum means, in a few English words; of any other number, that it is no refusal number. It is a
+ * text of static storage, and never null. */
+const char *sjurnabel_refusal_text(int n);
 
 /* The most records of a list. */
 #define SJURNABEL_MOST_RECTS 512
@@ -110,6 +131,15 @@ typedef struct sjurnabel_bounds {
     int64_t east;
     int64_t north;
 } sjurnabel_bounds;
+
+/* PI, which is the 180th meridian; the standard empty rectangle, and the full one. These two are objects: they can be
+ * passed, copied and pointed to. Where C wants a constant, as a static object's first value must be, an object is
+ * none: the names that end in _INIT stand there. */
+#define SJURNABEL_PI 3.141592653589793
+#define SJURNABEL_EMPTY_RECT_INIT {{1, 0}, {SJURNABEL_PI, -SJURNABEL_PI}}
+#define SJURNABEL_FULL_RECT_INIT {{-SJURNABEL_PI / 2, SJURNABEL_PI / 2}, {-SJURNABEL_PI, SJURNABEL_PI}}
+static const sjurnabel_rect SJURNABEL_EMPTY_RECT = SJURNABEL_EMPTY_RECT_INIT;
+static const sjurnabel_rect SJURNABEL_FULL_RECT = SJURNABEL_FULL_RECT_INIT;
 
 /* ---- what comes out; sizes in bytes, and where a member starts ---- */
 
@@ -157,10 +187,13 @@ typedef struct sjurnabel_distance {
     double value;
 } sjurnabel_distance;
 
-/* 16: refusal 0, count 8. Under a refusal the count is 0. */
+/* 24: refusal 0, count 8, entry 16. Under a refusal the count is 0. Beside 1, 21, 22 and 23 the entry is the number,
+ * from zero, of the first rectangle of the list that is refused, and the refusal is that rectangle's. Beside any other
+ * number, 0 too, the entry is 0 and means nothing. */
 typedef struct sjurnabel_pieces {
     uint8_t refusal;
     size_t count;
+    size_t entry;
 } sjurnabel_pieces;
 
 /* 40: refusal 0, value 8. A refused box is four zeros. */
@@ -184,21 +217,21 @@ typedef struct sjurnabel_text {
  * be joined, and count says how many. Doubles of out after the last piece stay as they are. No rectangle at all
  * gives the full one, once; with n rectangles there are at most n pieces, so that out_length = 4 * n (4 for an
  * empty list) is always enough. At most 512 rectangles.
- * Refusals: 1, 2, 5, 6; out is then untouched. */
+ * Refusals: 5; 1, 21, 22, 23, with the entry; 6. Each time out is untouched. */
 sjurnabel_pieces sjurnabel_common_region(const double *list, size_t list_length, double *out, size_t out_length);
 
 /* The rectangle grown by every point of the list, from the first to the last: it holds the rectangle and each
  * point. Longitudes grow as sjurnabel_circle_add says. At most 4,096 points. One bad point refuses the whole list.
- * Refusals: 5 and 3, with the rectangle as it was handed in; 1 and 2, with the standard empty one. */
+ * Refusals: 5 and 3, with the rectangle as it was handed in; 1, 21, 22 and 23, with the standard empty one. */
 sjurnabel_rect_answer sjurnabel_grow(sjurnabel_rect a, const double *points, size_t points_length);
 
 /* The scan worker: enlarges the running box by one point, as sjurnabel_grow does, in place. A box that starts as
  * the standard empty rectangle ends as one that holds every point.
- * Refusals: 1, 2 (the box), 3 (the point); the box is then untouched, every bit of it. */
+ * Refusals: 1, 21, 22, 23 (the box), 3 (the point); the box is then untouched, every bit of it. */
 sjurnabel_refused sjurnabel_scan_point(sjurnabel_rect *box, sjurnabel_latlng p);
 
 /* The same by a list of points, all of them or, where one is bad, none. At most 4,096 points.
- * Refusals: 1, 2, 3, 5; the box is then untouched. */
+ * Refusals: 5, 1, 21, 22, 23, 3; the box is then untouched. */
 sjurnabel_refused sjurnabel_scan_list(sjurnabel_rect *box, const double *points, size_t points_length);
 
 /* ---- rectangles ---- */
@@ -214,86 +247,86 @@ sjurnabel_rect_answer sjurnabel_rect_from_center_size(sjurnabel_latlng center, s
  * sjurnabel_circle_from_point_pair gives. Refusal: 3. */
 sjurnabel_rect_answer sjurnabel_rect_from_point_pair(sjurnabel_latlng p, sjurnabel_latlng q);
 
-/* Whether a is valid: true under 0, and false under a refusal. Refusals: 1, 2. */
+/* Whether a is valid: true under 0, and false under a refusal. Refusals: 1, 21, 22, 23. */
 sjurnabel_yes_no sjurnabel_rect_is_valid(sjurnabel_rect a);
 
-/* Whether a holds no place. Refusals: 1, 2. */
+/* Whether a holds no place. Refusals: 1, 21, 22, 23. */
 sjurnabel_yes_no sjurnabel_rect_is_empty(sjurnabel_rect a);
 
-/* Whether a is the full rectangle. Refusals: 1, 2. */
+/* Whether a is the full rectangle. Refusals: 1, 21, 22, 23. */
 sjurnabel_yes_no sjurnabel_rect_is_full(sjurnabel_rect a);
 
-/* Whether a holds a single point. Refusals: 1, 2. */
+/* Whether a holds a single point. Refusals: 1, 21, 22, 23. */
 sjurnabel_yes_no sjurnabel_rect_is_point(sjurnabel_rect a);
 
-/* Whether lng.lo > lng.hi: a crosses the 180th meridian, starts there, or is empty. Refusals: 1, 2. */
+/* Whether lng.lo > lng.hi: a crosses the 180th meridian, starts there, or is empty. Refusals: 1, 21, 22, 23. */
 sjurnabel_yes_no sjurnabel_rect_is_inverted(sjurnabel_rect a);
 
-/* The corner of number i modulo 4: lower left, lower right, upper right, upper left. Refusals: 1, 2. */
+/* The corner of number i modulo 4: lower left, lower right, upper right, upper left. Refusals: 1, 21, 22, 23. */
 sjurnabel_latlng_answer sjurnabel_rect_vertex(sjurnabel_rect a, uint8_t i);
 
-/* The lower left corner, of number 0. Refusals: 1, 2. */
+/* The lower left corner, of number 0. Refusals: 1, 21, 22, 23. */
 sjurnabel_latlng_answer sjurnabel_rect_lo(sjurnabel_rect a);
 
-/* The upper right corner, of number 2. Refusals: 1, 2. */
+/* The upper right corner, of number 2. Refusals: 1, 21, 22, 23. */
 sjurnabel_latlng_answer sjurnabel_rect_hi(sjurnabel_rect a);
 
 /* The middle of the latitudes and the middle of the longitudes; of an empty rectangle it means nothing.
- * Refusals: 1, 2. */
+ * Refusals: 1, 21, 22, 23. */
 sjurnabel_latlng_answer sjurnabel_rect_center(sjurnabel_rect a);
 
 /* How far the latitudes go, and the longitudes: sjurnabel_line_len and sjurnabel_circle_len. Both are negative where a
- * is empty. Refusals: 1, 2. */
+ * is empty. Refusals: 1, 21, 22, 23. */
 sjurnabel_latlng_answer sjurnabel_rect_size(sjurnabel_rect a);
 
-/* Whether a holds every place of b. Refusals: 1, 2. */
+/* Whether a holds every place of b. Refusals: 1, 21, 22, 23. */
 sjurnabel_yes_no sjurnabel_rect_contains(sjurnabel_rect a, sjurnabel_rect b);
 
-/* Whether the inside of a holds every place of b. Refusals: 1, 2. */
+/* Whether the inside of a holds every place of b. Refusals: 1, 21, 22, 23. */
 sjurnabel_yes_no sjurnabel_rect_interior_contains(sjurnabel_rect a, sjurnabel_rect b);
 
-/* Whether a holds the point. Refusals: 1, 2, 3. */
+/* Whether a holds the point. Refusals: 1, 21, 22, 23, 3. */
 sjurnabel_yes_no sjurnabel_rect_contains_latlng(sjurnabel_rect a, sjurnabel_latlng p);
 
-/* Whether the inside of a holds the point. Refusals: 1, 2, 3. */
+/* Whether the inside of a holds the point. Refusals: 1, 21, 22, 23, 3. */
 sjurnabel_yes_no sjurnabel_rect_interior_contains_latlng(sjurnabel_rect a, sjurnabel_latlng p);
 
-/* Whether a and b share a place. Refusals: 1, 2. */
+/* Whether a and b share a place. Refusals: 1, 21, 22, 23. */
 sjurnabel_yes_no sjurnabel_rect_intersects(sjurnabel_rect a, sjurnabel_rect b);
 
 /* Whether the inside of a and b meet: latitudes and longitudes each overlap by more than an end of a.
- * Refusals: 1, 2. */
+ * Refusals: 1, 21, 22, 23. */
 sjurnabel_yes_no sjurnabel_rect_interior_intersects(sjurnabel_rect a, sjurnabel_rect b);
 
-/* Whether a and b hold the same places; two empty ones do. Refusals: 1, 2. */
+/* Whether a and b hold the same places; two empty ones do. Refusals: 1, 21, 22, 23. */
 sjurnabel_yes_no sjurnabel_rect_eq(sjurnabel_rect a, sjurnabel_rect b);
 
 /* Whether a and b are the same but for noise: sjurnabel_line_approx_eq of the latitudes and
- * sjurnabel_circle_approx_eq of the longitudes. Refusals: 1, 2. */
+ * sjurnabel_circle_approx_eq of the longitudes. Refusals: 1, 21, 22, 23. */
 sjurnabel_yes_no sjurnabel_rect_approx_eq(sjurnabel_rect a, sjurnabel_rect b);
 
-/* The same with the errors given. Refusals: 1, 2, 4. */
+/* The same with the errors given. Refusals: 1, 21, 22, 23, 4. */
 sjurnabel_yes_no sjurnabel_rect_approx_eq_by(sjurnabel_rect a, sjurnabel_rect b, sjurnabel_latlng max_error);
 
 /* One rectangle that holds both. Of {0, 0} and {PI, PI} the longitudes go east from the first: the order of a and b
- * may matter. Refusals: 1, 2. */
+ * may matter. Refusals: 1, 21, 22, 23. */
 sjurnabel_rect_answer sjurnabel_rect_union(sjurnabel_rect a, sjurnabel_rect b);
 
 /* One rectangle that holds what a and b share. It may hold far more: for the exact answer use
- * sjurnabel_common_region. Refusals: 1, 2. */
+ * sjurnabel_common_region. Refusals: 1, 21, 22, 23. */
 sjurnabel_rect_answer sjurnabel_rect_intersection(sjurnabel_rect a, sjurnabel_rect b);
 
 /* a with margin.lat added on both sides of the latitudes, not beyond the poles, and margin.lng on both sides of the
  * longitudes, as sjurnabel_circle_expanded does; negative margins shrink it. Where latitudes or longitudes are empty
- * then, it is the standard empty rectangle. Refusals: 1, 2, 4. */
+ * then, it is the standard empty rectangle. Refusals: 1, 21, 22, 23, 4. */
 sjurnabel_rect_answer sjurnabel_rect_expanded(sjurnabel_rect a, sjurnabel_latlng margin);
 
 /* a with all longitudes where it reaches a pole, since each longitude names the pole there; else a itself. An empty
- * rectangle reaches none. Refusals: 1, 2. */
+ * rectangle reaches none. Refusals: 1, 21, 22, 23. */
 sjurnabel_rect_answer sjurnabel_rect_polar_closure(sjurnabel_rect a);
 
 /* a grown by one point, as sjurnabel_grow does.
- * Refusals: 1 and 2, with the standard empty rectangle; 3, with the rectangle as it was handed in. */
+ * Refusals: 1, 21, 22 and 23, with the standard empty rectangle; 3, with the rectangle as it was handed in. */
 sjurnabel_rect_answer sjurnabel_rect_add(sjurnabel_rect a, sjurnabel_latlng p);
 
 /* Whether a point is valid: true under 0, and false under the refusal. Refusal: 3. */
@@ -302,10 +335,10 @@ sjurnabel_yes_no sjurnabel_latlng_is_valid(sjurnabel_latlng p);
 /* ---- the circle of longitudes: intervals as under INTERVALS AND RECTANGLES, points of size at most PI ---- */
 
 /* The interval from lo east to hi. An end -PI is written PI, but in the full and the empty interval.
- * Refusals: 1; 2, an end of size over PI. */
+ * Refusals: 1; 22, an end of size over PI. */
 sjurnabel_interval_answer sjurnabel_circle_new(double lo, double hi);
 
-/* The circle interval with the ends of a line interval, as they are. Refusals: 1; 2, it is not valid. */
+/* The circle interval with the ends of a line interval, as they are. Refusals: 1; 22, it is not valid. */
 sjurnabel_interval_answer sjurnabel_circle_from_line(sjurnabel_interval l);
 
 /* From p east to q where that is at most PI by sjurnabel_circle_positive_distance, and else from q east to p; -PI is
@@ -313,51 +346,51 @@ sjurnabel_interval_answer sjurnabel_circle_from_line(sjurnabel_interval l);
  * Refusal: 3. */
 sjurnabel_interval_answer sjurnabel_circle_from_point_pair(double p, double q);
 
-/* Whether a is valid: true under 0, and false under a refusal. Refusals: 1, 2. */
+/* Whether a is valid: true under 0, and false under a refusal. Refusals: 1, 22. */
 sjurnabel_yes_no sjurnabel_circle_is_valid(sjurnabel_interval a);
 
-/* Whether a is the full circle. Refusals: 1, 2. */
+/* Whether a is the full circle. Refusals: 1, 22. */
 sjurnabel_yes_no sjurnabel_circle_is_full(sjurnabel_interval a);
 
-/* Whether a is empty. Refusals: 1, 2. */
+/* Whether a is empty. Refusals: 1, 22. */
 sjurnabel_yes_no sjurnabel_circle_is_empty(sjurnabel_interval a);
 
-/* Whether lo > hi: a crosses the 180th meridian, starts there, or is empty. Refusals: 1, 2. */
+/* Whether lo > hi: a crosses the 180th meridian, starts there, or is empty. Refusals: 1, 22. */
 sjurnabel_yes_no sjurnabel_circle_is_inverted(sjurnabel_interval a);
 
-/* The middle of a; of the full and the empty one it means nothing. Refusals: 1, 2. */
+/* The middle of a; of the full and the empty one it means nothing. Refusals: 1, 22. */
 sjurnabel_number sjurnabel_circle_center(sjurnabel_interval a);
 
 /* How long a is, rounded. The empty one has -1; so has {PI, x} with x the double next to -PI, as its length rounds to
- * 0, and some that are all but full have 2 PI. Refusals: 1, 2. */
+ * 0, and some that are all but full have 2 PI. Refusals: 1, 22. */
 sjurnabel_number sjurnabel_circle_len(sjurnabel_interval a);
 
-/* The line interval with the ends of a: empty where lo > hi. Refusals: 1, 2; the line's empty one stands beside. */
+/* The line interval with the ends of a: empty where lo > hi. Refusals: 1, 22; the line's empty one stands beside. */
 sjurnabel_interval_answer sjurnabel_circle_to_line(sjurnabel_interval a);
 
 /* As sjurnabel_circle_contains, but -PI is not taken for PI: it says false of -PI in {x, PI}, x above -PI.
- * Refusals: 1, 2, 3. */
+ * Refusals: 1, 22, 3. */
 sjurnabel_yes_no sjurnabel_circle_fast_contains(sjurnabel_interval a, double p);
 
-/* Whether a holds the point p, of size at most PI. Refusals: 1, 2, 3. */
+/* Whether a holds the point p, of size at most PI. Refusals: 1, 22, 3. */
 sjurnabel_yes_no sjurnabel_circle_contains(sjurnabel_interval a, double p);
 
-/* Whether a holds every place of b. Refusals: 1, 2. */
+/* Whether a holds every place of b. Refusals: 1, 22. */
 sjurnabel_yes_no sjurnabel_circle_contains_interval(sjurnabel_interval a, sjurnabel_interval b);
 
-/* Whether the inside of a holds the point p. Refusals: 1, 2, 3. */
+/* Whether the inside of a holds the point p. Refusals: 1, 22, 3. */
 sjurnabel_yes_no sjurnabel_circle_interior_contains(sjurnabel_interval a, double p);
 
-/* Whether the inside of a holds every place of b. Refusals: 1, 2. */
+/* Whether the inside of a holds every place of b. Refusals: 1, 22. */
 sjurnabel_yes_no sjurnabel_circle_interior_contains_interval(sjurnabel_interval a, sjurnabel_interval b);
 
-/* Whether a and b share a place. Refusals: 1, 2. */
+/* Whether a and b share a place. Refusals: 1, 22. */
 sjurnabel_yes_no sjurnabel_circle_intersects(sjurnabel_interval a, sjurnabel_interval b);
 
-/* Whether the inside of a shares a place with b. Refusals: 1, 2. */
+/* Whether the inside of a shares a place with b. Refusals: 1, 22. */
 sjurnabel_yes_no sjurnabel_circle_interior_intersects(sjurnabel_interval a, sjurnabel_interval b);
 
-/* Whether a and b have the same ends, and so the same places. Refusals: 1, 2. */
+/* Whether a and b have the same ends, and so the same places. Refusals: 1, 22. */
 sjurnabel_yes_no sjurnabel_circle_eq(sjurnabel_interval a, sjurnabel_interval b);
 
 /* Whether a and b are the same but for an error of 1e-14. Where one is empty: whether the other is shorter than twice
@@ -365,44 +398,44 @@ sjurnabel_yes_no sjurnabel_circle_eq(sjurnabel_interval a, sjurnabel_interval b)
  * end of a lies within the error of that end of b, and the lengths differ by no more than twice the error, so that
  * {0, 0} is not like {1e-15, 0}, which is all but full. Lengths are those of sjurnabel_circle_len. Ends on either
  * side of the 180th meridian do not count as near, but for PI and the double next to -PI, whose difference rounds to
- * 2 PI. Refusals: 1, 2. */
+ * 2 PI. Refusals: 1, 22. */
 sjurnabel_yes_no sjurnabel_circle_approx_eq(sjurnabel_interval a, sjurnabel_interval b);
 
-/* The same with the error given. Refusals: 1, 2, 4. */
+/* The same with the error given. Refusals: 1, 22, 4. */
 sjurnabel_yes_no sjurnabel_circle_approx_eq_by(sjurnabel_interval a, sjurnabel_interval b, double max_error);
 
-/* a with its ends exchanged: of a point the same point, of the full circle the empty interval. Refusals: 1, 2. */
+/* a with its ends exchanged: of a point the same point, of the full circle the empty interval. Refusals: 1, 22. */
 sjurnabel_interval_answer sjurnabel_circle_invert(sjurnabel_interval a);
 
-/* The rest of the circle and the ends of a; of a point the full circle. Refusals: 1, 2. */
+/* The rest of the circle and the ends of a; of a point the full circle. Refusals: 1, 22. */
 sjurnabel_interval_answer sjurnabel_circle_complement(sjurnabel_interval a);
 
-/* One interval that holds both; the order of a and b may matter. Refusals: 1, 2. */
+/* One interval that holds both; the order of a and b may matter. Refusals: 1, 22. */
 sjurnabel_interval_answer sjurnabel_circle_union(sjurnabel_interval a, sjurnabel_interval b);
 
-/* One interval that holds what a and b share; it may hold more, as they may meet at both ends. Refusals: 1, 2. */
+/* One interval that holds what a and b share; it may hold more, as they may meet at both ends. Refusals: 1, 22. */
 sjurnabel_interval_answer sjurnabel_circle_intersection(sjurnabel_interval a, sjurnabel_interval b);
 
 /* a with the margin added on both sides; a negative one shrinks it. The empty interval stays empty, the full one
  * full; what is so but for a rounding error becomes full or empty. Ends are rounded: shrunk by almost half its
  * length, an interval may end up all but full, and {PI, x} with x the double next to -PI, whose length is said to be
- * -1, is not held by what it is widened to with margins from PI to about 3.64. Refusals: 1, 2, 4. */
+ * -1, is not held by what it is widened to with margins from PI to about 3.64. Refusals: 1, 22, 4. */
 sjurnabel_interval_answer sjurnabel_circle_expanded(sjurnabel_interval a, double margin);
 
 /* a grown by the point p, to the side that is nearer by sjurnabel_circle_positive_distance; east, where the rounded
  * distances are the same. -PI is read as PI.
- * Refusals: 1 and 2, with the empty interval; 3, with the interval as it was handed in. */
+ * Refusals: 1 and 22, with the empty interval; 3, with the interval as it was handed in. */
 sjurnabel_interval_answer sjurnabel_circle_add(sjurnabel_interval a, double p);
 
 /* How far it is from p east to q, rounded, from 0 to 2 PI; from -PI to PI it is 2 PI. Refusal: 3. */
 sjurnabel_number sjurnabel_circle_positive_distance(double p, double q);
 
 /* The middle of the rest of the circle, of a point the point opposite; of the full and the empty one it means
- * nothing. Refusals: 1, 2. */
+ * nothing. Refusals: 1, 22. */
 sjurnabel_number sjurnabel_circle_complement_center(sjurnabel_interval a);
 
 /* How far a place of a can lie from the nearest one of b: 0 where b holds a, PI where b alone is empty.
- * Refusals: 1, 2. */
+ * Refusals: 1, 22. */
 sjurnabel_number sjurnabel_circle_directed_hausdorff_distance(sjurnabel_interval a, sjurnabel_interval b);
 
 /* x minus the whole multiple of 2 PI nearest to it, of two equally near ones the even one: from -PI to PI, exact,
@@ -487,7 +520,7 @@ enum sjurnabel_environment_fault {
 };
 
 /* The sum of the faults of the calling thread's environment, as it is at the call; 0 where there is none. It reads
- * one register, MXCSR, and changes nothing. This is the one function of the library that is tested and not proved. */
+ * one register, MXCSR, and changes nothing. This function and the two that answer texts are tested and not proved. */
 unsigned sjurnabel_environment(void);
 
 /* ---- GeoJSON: the bbox array [west, south, east, north] of RFC 7946, in degrees ---- */

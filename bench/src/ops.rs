@@ -161,7 +161,7 @@ pub fn rects(rows: &mut Vec<Row>, g: &mut Rng) {
 #[rustfmt::skip]
 pub fn refusals(rows: &mut Vec<Row>, g: &mut Rng) {
     refused!(rows, 1, "rectangle contains, an end is NaN", sjurnabel_rect_contains(a: Rect = Rect { lat: Interval { lo: f64::NAN, hi: 1.0 }, ..g.rect() }, b: Rect = g.rect()) -> YesNo);
-    refused!(rows, 2, "rectangle union, the second is not valid", sjurnabel_rect_union(a: Rect = g.rect(), b: Rect = Rect { lng: Interval { lo: 4.0, hi: 1.0 }, ..g.rect() }) -> RectAnswer);
+    refused!(rows, 22, "rectangle union, the second is not valid", sjurnabel_rect_union(a: Rect = g.rect(), b: Rect = Rect { lng: Interval { lo: 4.0, hi: 1.0 }, ..g.rect() }) -> RectAnswer);
     refused!(rows, 3, "rectangle contains_latlng, a bad point", sjurnabel_rect_contains_latlng(a: Rect = g.rect(), p: LatLng = LatLng { lat: 2.0, lng: g.longitude() }) -> YesNo);
     refused!(rows, 4, "rectangle expanded, an infinite margin", sjurnabel_rect_expanded(a: Rect = g.rect(), m: LatLng = LatLng { lat: f64::INFINITY, lng: g.unit() }) -> RectAnswer);
 }

@@ -22,7 +22,7 @@ records! {
     LatLngAnswer { refusal: u8, value: LatLng }
     /// The line's Hausdorff distance: a number, or none
     Distance { refusal: u8, unbounded: bool, value: f64 }
-    Pieces { refusal: u8, count: usize }
+    Pieces { refusal: u8, count: usize, entry: usize }
 }
 
 pub const EMPTY: Rect = Rect {

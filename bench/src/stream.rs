@@ -34,8 +34,10 @@ fn answer(bytes: &[u8]) -> String {
     }
     let mut out = vec![0.0; 2048];
     let found = sweep::common_region(&list, &mut out);
-    if found.refusal != 0 {
-        return format!("refused {}\n", found.refusal);
+    match found.refusal {
+        0 => {}
+        1 | 21 | 22 | 23 => return format!("refused {} at {}\n", found.refusal, found.entry),
+        n => return format!("refused {n}\n"),
     }
     let mut text = format!("pieces {}\n", found.count);
     for p in out[..4 * found.count].chunks_exact(4) {

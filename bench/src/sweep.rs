@@ -20,13 +20,17 @@ fn refusal(r: &[f64]) -> u8 {
     let empty = west == PI && east == -PI;
     if lat && lng && (south > north) == empty {
         0
+    } else if !lat {
+        21
+    } else if !lng {
+        22
     } else {
-        2
+        23
     }
 }
 
 pub fn common_region(list: &[f64], out: &mut [f64]) -> Pieces {
-    let refused = |refusal| Pieces { refusal, count: 0 };
+    let refused = |refusal| Pieces { refusal, count: 0, entry: 0 };
     if list.len() % 4 != 0 || list.len() > 2048 {
         return refused(5);
     }
@@ -36,7 +40,9 @@ pub fn common_region(list: &[f64], out: &mut [f64]) -> Pieces {
     for r in list.chunks_exact(4) {
         let why = refusal(r);
         if why != 0 {
-            return refused(why);
+            // which one it is is looked for only now, so that good zones need no counting
+            let entry = list.chunks_exact(4).position(|r| refusal(r) != 0).unwrap_or(0);
+            return Pieces { entry, ..refused(why) };
         }
         south = south.max(r[0]);
         north = north.min(r[1]);
@@ -78,5 +84,5 @@ pub fn common_region(list: &[f64], out: &mut [f64]) -> Pieces {
     for (to, &(west, east)) in out.chunks_exact_mut(4).zip(&pieces) {
         to.copy_from_slice(&[south + 0.0, north + 0.0, west + 0.0, east + 0.0]);
     }
-    Pieces { refusal: 0, count: pieces.len() }
+    Pieces { count: pieces.len(), ..refused(0) }
 }

@@ -3,7 +3,8 @@
  * A planner's rule: "in zone A and in zone B" becomes "in one of these boxes", with the boxes that sjurnabel_common_region
  * lists. The zones of the story meet at both ends; the single box of sjurnabel_rect_intersection would bill every ship
  * between. Zones are GeoJSON bbox arrays, rows have degrees. No number is rounded on the way: each edge of a piece is an
- * edge of a zone, so it is looked up there and written as it was read. Under a refusal the predicates stay as they are.
+ * edge of a zone, so it is looked up there and written as it was read. Under a refusal the predicates stay as they are, and
+ * it is said which zone is refused, from zero, and why.
  *
  *     planner                 the zones of the story, and what else can come
  *     planner ZONE ZONE       the predicate that these two become
@@ -15,17 +16,19 @@
 #define SEAM 1800000000 /* 180 degrees */
 
 typedef struct { sjurnabel_bounds degrees; sjurnabel_rect radians; } zone;
-typedef struct { char text[512]; } predicate;
+typedef struct { char text[512]; int refused; } predicate; /* refused: the zone that is, or -1 */
 
 /* reads both zones; the first refusal number, or 0 */
-static int read_zones(const char *const text[2], zone z[2]) {
+static int read_zones(const char *const text[2], zone z[2], predicate *p) {
     for (int i = 0; i < 2; i++) {
+        p->refused = i;
         sjurnabel_bounds_answer b = sjurnabel_bbox_read(text[i], strlen(text[i]));
         if (b.refusal) return b.refusal;
         sjurnabel_rect_answer r = sjurnabel_bbox_rect(b.value);
         if (r.refusal) return r.refusal;
         z[i].degrees = b.value, z[i].radians = r.value;
     }
+    p->refused = -1;
     return 0;
 }
 
@@ -63,11 +66,11 @@ static int rewrite(const char *a, const char *b, predicate *p) {
     const char *const text[2] = {a, b};
     zone z[2];
     sjurnabel_rect piece[2];
-    int refusal = read_zones(text, z);
+    int refusal = read_zones(text, z, p);
     if (refusal) return refusal;
     const sjurnabel_rect list[2] = {z[0].radians, z[1].radians};
     sjurnabel_pieces found = sjurnabel_common_region(&list[0].lat.lo, 8, &piece[0].lat.lo, 8);
-    if (found.refusal) return found.refusal;
+    if (found.refusal) return p->refused = (int)found.entry, found.refusal;
     strcpy(p->text, found.count ? "" : "   FALSE\n");
     for (size_t i = 0; i < found.count && !refusal; i++) refusal = add_piece(p, piece[i], z);
     return refusal;
@@ -77,7 +80,7 @@ static int rewrite(const char *a, const char *b, predicate *p) {
 static int one_box(const char *a, const char *b, predicate *p) {
     const char *const text[2] = {a, b};
     zone z[2];
-    int refusal = read_zones(text, z);
+    int refusal = read_zones(text, z, p);
     if (refusal) return refusal;
     sjurnabel_rect_answer one = sjurnabel_rect_intersection(z[0].radians, z[1].radians);
     if (one.refusal) return one.refusal;
@@ -86,9 +89,11 @@ static int one_box(const char *a, const char *b, predicate *p) {
 }
 
 static int show(int refusal, const predicate *p) {
-    if (refusal) printf("   refused %d, the predicates stay\n", refusal);
-    else fputs(p->text, stdout);
-    return refusal != 0;
+    if (!refusal) return fputs(p->text, stdout), 0;
+    printf("   refused %d", refusal);
+    if (p->refused >= 0) printf(" at %d", p->refused);
+    printf(": %s; the predicates stay\n", sjurnabel_refusal_text(refusal));
+    return 1;
 }
 
 int main(int argc, char **argv) {

@@ -9,8 +9,9 @@
  *
  * A zone is four numbers in radians, as the header says; a blob of pieces is 32 bytes a piece, the same four numbers as
  * doubles, so that no bit is lost on the way. NULL in a scalar function's argument answers NULL; the aggregate passes over a
- * zone with a NULL, and answers NULL where no zone is left. A refusal of the library is an SQL error that names its number, and
- * so is a blob that is no common region.
+ * zone with a NULL, and answers NULL where no zone is left. A refusal of the library is an SQL error that names its number and,
+ * in the aggregate, the zone: its place among all that were handed over, from zero, those with a NULL too. A blob that is no
+ * common region is an error that names the piece, from one.
  */
 #include <math.h>
 #include <sjurnabel.h>
@@ -18,23 +19,13 @@
 #include <string.h>
 SQLITE_EXTENSION_INIT1
 
-/* the library's PI: the 180th meridian */
-static const double pi = 0x1.921fb54442d18p+1;
-
 /* a piece in a blob: that is the layout of the record */
 _Static_assert(sizeof(sjurnabel_rect) == 4 * sizeof(double), "a rectangle is four doubles");
 
 /* ---- arguments and errors ---- */
 
-static char *refusal_text(int refusal) {
-    static const char *const why[] = {
-        [SJURNABEL_OUT_OF_REACH] = "a number out of reach",
-        [SJURNABEL_NOT_VALID] = "not a valid rectangle",
-        [SJURNABEL_BAD_POINT] = "not a valid point",
-        [SJURNABEL_BAD_LIST] = "more than 512 rectangles, or one cut short",
-    };
-    const int known = refusal > 0 && refusal < (int)(sizeof why / sizeof *why) && why[refusal];
-    return sqlite3_mprintf("sjurnabel: refused %d: %s", refusal, known ? why[refusal] : "see sjurnabel.h");
+static char *refused(int refusal) {
+    return sqlite3_mprintf("sjurnabel: refused %d: %s", refusal, sjurnabel_refusal_text(refusal));
 }
 
 /* makes `text`, which it frees, the function's error */
@@ -44,15 +35,19 @@ static void fail(sqlite3_context *ctx, char *text) {
     sqlite3_free(text);
 }
 
+enum { NO_ROW = -1 };
+
 /* Reads n numbers. 0 where one is NULL, with nothing said (the result of a function that says nothing is NULL), or where one
- * is neither NULL nor a number, with the error set: text is not turned into a number, as 'abc' would become 0. */
-static int numbers(sqlite3_context *ctx, int n, sqlite3_value **argv, double *x) {
+ * is neither NULL nor a number, with the error set: text is not turned into a number, as 'abc' would become 0. The error names
+ * the aggregate's row, from zero; a scalar function has NO_ROW. */
+static int numbers(sqlite3_context *ctx, int n, sqlite3_value **argv, double *x, sqlite3_int64 row) {
     for (int i = 0; i < n; i++)
         if (sqlite3_value_type(argv[i]) == SQLITE_NULL) return 0;
     for (int i = 0; i < n; i++) {
         const int type = sqlite3_value_type(argv[i]);
         if (type != SQLITE_FLOAT && type != SQLITE_INTEGER) {
-            fail(ctx, sqlite3_mprintf("sjurnabel: argument %d is not a number", i + 1));
+            if (row == NO_ROW) fail(ctx, sqlite3_mprintf("sjurnabel: argument %d is not a number", i + 1));
+            else fail(ctx, sqlite3_mprintf("sjurnabel: argument %d is not a number, at %lld", i + 1, row));
             return 0;
         }
         x[i] = sqlite3_value_double(argv[i]);
@@ -69,36 +64,47 @@ static sjurnabel_rect rect(const double *x) {
 
 static void zone_contains(sqlite3_context *ctx, int argc, sqlite3_value **argv) {
     double x[6];
-    if (!numbers(ctx, argc, argv, x)) return;
+    if (!numbers(ctx, argc, argv, x, NO_ROW)) return;
     const sjurnabel_yes_no in = sjurnabel_rect_contains_latlng(rect(x), (sjurnabel_latlng){x[4], x[5]});
-    if (in.refusal) fail(ctx, refusal_text(in.refusal));
+    if (in.refusal) fail(ctx, refused(in.refusal));
     else sqlite3_result_int(ctx, in.value);
 }
 
 static void zone_intersection_box(sqlite3_context *ctx, int argc, sqlite3_value **argv) {
     double x[8];
-    if (!numbers(ctx, argc, argv, x)) return;
+    if (!numbers(ctx, argc, argv, x, NO_ROW)) return;
     const sjurnabel_rect_answer box = sjurnabel_rect_intersection(rect(x), rect(x + 4));
     const int empty = box.value.lat.lo > box.value.lat.hi;
-    if (box.refusal) fail(ctx, refusal_text(box.refusal));
+    if (box.refusal) fail(ctx, refused(box.refusal));
     else sqlite3_result_blob(ctx, &box.value, empty ? 0 : (int)sizeof box.value, SQLITE_TRANSIENT);
 }
 
 /* ---- the aggregate ---- */
 
-/* the zones so far; SQLite hands it out as zeros, and frees it */
+/* The zones so far, and which row each is; SQLite hands it out as zeros, and frees it. A zone with a NULL is passed over, so
+ * that a zone's place among those that are kept is not its row: and it is the row that an error must name. */
 typedef struct zones {
+    sqlite3_int64 rows; /* how many were handed over, those with a NULL too */
     size_t count;
     sjurnabel_rect zone[SJURNABEL_MOST_RECTS];
+    sqlite3_int64 row[SJURNABEL_MOST_RECTS];
 } zones;
 
 static void zone_common_step(sqlite3_context *ctx, int argc, sqlite3_value **argv) {
     double x[4];
-    if (!numbers(ctx, argc, argv, x)) return;
     zones *all = sqlite3_aggregate_context(ctx, sizeof *all);
-    if (!all) sqlite3_result_error_nomem(ctx);
-    else if (all->count == SJURNABEL_MOST_RECTS) fail(ctx, refusal_text(SJURNABEL_BAD_LIST));
-    else all->zone[all->count++] = rect(x);
+    if (!all) {
+        sqlite3_result_error_nomem(ctx);
+        return;
+    }
+    const sqlite3_int64 row = all->rows++;
+    if (!numbers(ctx, argc, argv, x, row)) return;
+    if (all->count == SJURNABEL_MOST_RECTS) {
+        fail(ctx, refused(SJURNABEL_BAD_LIST));
+        return;
+    }
+    all->zone[all->count] = rect(x);
+    all->row[all->count++] = row;
 }
 
 static void zone_common_final(sqlite3_context *ctx) {
@@ -117,16 +123,20 @@ static void zone_common_final(sqlite3_context *ctx) {
         return;
     }
     sqlite3_free(piece);
-    fail(ctx, refusal_text(found.refusal));
+    /* the length and the room are right, so that it is a zone that is refused */
+    fail(ctx, sqlite3_mprintf("sjurnabel: refused %d at %lld: %s", found.refusal, all->row[found.entry],
+        sjurnabel_refusal_text(found.refusal)));
 }
 
 /* ---- what a blob must be ---- */
 
-/* Why the piece with this number, from 1, can stand in no region, or null where it can: it is not valid, it is empty, or it has
- * a negative zero, which the library never writes, so that equal regions are equal blobs. */
+/* Why the piece with this number, from 1 as in the column `piece`, can stand in no region, or null where it can: it is refused, it
+ * is empty, or it has a negative zero, which the library never writes, so that equal regions are equal blobs. */
 static char *no_piece(sjurnabel_rect p, int number) {
     const int refusal = sjurnabel_rect_is_valid(p).refusal;
-    if (refusal) return refusal_text(refusal);
+    if (refusal)
+        return sqlite3_mprintf("sjurnabel: no common region: piece %d: refused %d: %s", number, refusal,
+            sjurnabel_refusal_text(refusal));
     if (sjurnabel_rect_is_empty(p).value) return sqlite3_mprintf("sjurnabel: no common region: piece %d is empty", number);
     const double x[4] = {p.lat.lo, p.lat.hi, p.lng.lo, p.lng.hi};
     for (int i = 0; i < 4; i++)
@@ -245,14 +255,14 @@ static int table_filter(sqlite3_vtab_cursor *base, int number, const char *text,
     if (type != SQLITE_BLOB)
         return table_fail(base->pVtab, sqlite3_mprintf("sjurnabel: %s takes the blob of zone_common", t->name));
     const int bytes = sqlite3_value_bytes(argv[0]), count = bytes / (int)sizeof *c->piece;
-    if (bytes % sizeof *c->piece || count > SJURNABEL_MOST_RECTS) return table_fail(base->pVtab, refusal_text(SJURNABEL_BAD_LIST));
+    if (bytes % sizeof *c->piece || count > SJURNABEL_MOST_RECTS) return table_fail(base->pVtab, refused(SJURNABEL_BAD_LIST));
     if (!count) return SQLITE_OK;
     memcpy(c->piece, sqlite3_value_blob(argv[0]), bytes);
     char *why = no_region(c->piece, count);
     if (why) return table_fail(base->pVtab, why);
     c->count = count;
     const sjurnabel_interval last = c->piece[count - 1].lng;
-    c->split = t->ranges && last.lo != -pi && (last.lo > last.hi || last.hi == pi);
+    c->split = t->ranges && last.lo != -SJURNABEL_PI && (last.lo > last.hi || last.hi == SJURNABEL_PI);
     return SQLITE_OK;
 }
 
@@ -272,8 +282,8 @@ static int row_piece(const cursor *c) { return c->at < c->split ? c->count - 1 :
 static sjurnabel_rect row_rect(const cursor *c) {
     sjurnabel_rect r = c->piece[row_piece(c)];
     const int crosses = r.lng.lo > r.lng.hi;
-    if (c->at < c->split) r.lng = (sjurnabel_interval){-pi, crosses ? r.lng.hi : -pi};
-    else if (c->split && crosses) r.lng.hi = pi;
+    if (c->at < c->split) r.lng = (sjurnabel_interval){-SJURNABEL_PI, crosses ? r.lng.hi : -SJURNABEL_PI};
+    else if (c->split && crosses) r.lng.hi = SJURNABEL_PI;
     return r;
 }
 

@@ -1,8 +1,10 @@
-/* The library through its header alone: layouts, document 01's examples, every refusal of every function, and what is
- * left of the caller's memory, to the bit. Prints what fails; the last line is 'N passed, M failed'. */
+/* The library through its header alone: layouts, document 01's examples, every refusal of every function and its entry, what
+ * is left of the caller's memory, to the bit, and the version, texts and constants. Prints what fails; the last line is
+ * 'N passed, M failed'. */
 #include "sjurnabel.h"
 
 #include <assert.h>
+#include <limits.h>
 #include <math.h>
 #include <stdio.h>
 #include <string.h>
@@ -16,7 +18,7 @@ static_assert(sizeof(sjurnabel_yes_no) == 2 && offsetof(sjurnabel_yes_no, value)
 static_assert(sizeof(sjurnabel_number) == 16 && offsetof(sjurnabel_number, value) == 8, "number");
 static_assert(sizeof(sjurnabel_interval_answer) == 24 && offsetof(sjurnabel_interval_answer, value) == 8, "interval_answer");
 static_assert(sizeof(sjurnabel_rect_answer) == 40 && offsetof(sjurnabel_rect_answer, value) == 8, "rect_answer");
-static_assert(sizeof(sjurnabel_pieces) == 16 && offsetof(sjurnabel_pieces, count) == 8, "pieces");
+static_assert(sizeof(sjurnabel_pieces) == 24 && offsetof(sjurnabel_pieces, count) == 8 && offsetof(sjurnabel_pieces, entry) == 16, "pieces");
 static_assert(sizeof(sjurnabel_latlng_answer) == 24 && offsetof(sjurnabel_latlng_answer, value) == 8, "latlng_answer");
 static_assert(sizeof(sjurnabel_distance) == 16 && offsetof(sjurnabel_distance, unbounded) == 1 && offsetof(sjurnabel_distance, value) == 8, "distance");
 static_assert(sizeof(sjurnabel_bounds) == 32 && offsetof(sjurnabel_bounds, west) == 0 && offsetof(sjurnabel_bounds, south) == 8, "bounds");
@@ -57,18 +59,31 @@ static double marked(uint64_t n) { return of_bits(0x7FF8DEAD00000000 + n); }
 #define NEAR_NEG_PI of_bits(0xC00921FB54442D17) /* the double just above -PI */
 #define REACH of_bits(0x5F30000000000000)       /* 2 to the power 500 */
 #define PAST of_bits(0x5F30000000000001)        /* the next double */
+#define OVER_HALF_PI of_bits(0x3FF921FB54442D19) /* the double just above PI/2 */
 
 static const sjurnabel_rect EMPTY = {{1, 0}, {PI, -PI}}, FULL = {{-HALF_PI, HALF_PI}, {-PI, PI}};
 
-/* what is wrong with a rectangle, by its refusal number */
-static sjurnabel_rect bad(int refusal, int k) {
-    if (refusal == SJURNABEL_NOT_VALID) {
-        const sjurnabel_rect r[] = {{{0, 2}, {0, 1}}, {{-2, 0}, {0, 1}}, {{0, 1}, {0, 4}}, {{0, 1}, {-PI, 0}}, {{1, 0}, {0, 1}}, {{0, 1}, {PI, -PI}}, {{0, REACH}, {0, 1}}};
-        return r[k % 7];
-    }
-    const sjurnabel_rect r[] = {{{NAN, 1}, {0, 1}}, {{0, INFINITY}, {0, 1}}, {{0, 1}, {-INFINITY, 1}}, {{0, 1}, {0, marked(7)}}, {{0, PAST}, {0, 1}}};
-    return r[k % 5];
+/* why a rectangle is refused, in the order in which it is tested */
+static const int reasons[] = {SJURNABEL_OUT_OF_REACH, SJURNABEL_BAD_LATITUDE, SJURNABEL_BAD_CIRCLE, SJURNABEL_HALF_EMPTY};
+#define REASONS (int)(sizeof reasons / sizeof *reasons)
+#define KINDS 8
+
+/* a rectangle of each kind that is refused with reasons[n]: the last three, but for 23, have the faults that are tested later too */
+static sjurnabel_rect bad(int n, int k) {
+    const sjurnabel_rect r[][KINDS] = {
+        {{{NAN, 1}, {0, 1}}, {{0, INFINITY}, {0, 1}}, {{0, 1}, {-INFINITY, 1}}, {{0, 1}, {0, marked(7)}}, {{0, PAST}, {0, 1}},
+         {{2, NAN}, {0, 1}}, {{0, 1}, {4, -PAST}}, {{3, 2}, {NAN, 4}}},
+        {{{0, 2}, {0, 1}}, {{-2, 0}, {0, 1}}, {{0, REACH}, {0, 1}}, {{0, OVER_HALF_PI}, {-PI, PI}}, {{-OVER_HALF_PI, -2}, {PI, -PI}},
+         {{0, 2}, {4, 0}}, {{2, 1}, {0, 1}}, {{2, -2}, {-PI, 0}}},
+        {{{0, 1}, {0, 4}}, {{0, 1}, {-PI, 0}}, {{0, 1}, {0, -PI}}, {{0, 1}, {-PI, -PI}}, {{0, 1}, {-REACH, PI}},
+         {{1, 0}, {4, 0}}, {{1, 0}, {-PI, 0}}, {{-1, -REACH}, {0, -PI}}},
+        {{{1, 0}, {0, 1}}, {{0, 1}, {PI, -PI}}, {{1, 0}, {-PI, PI}}, {{-HALF_PI, HALF_PI}, {PI, -PI}}, {{0, -REACH}, {0, 1}},
+         {{-1, -3}, {1, -1}}, {{-0.0, 0}, {PI, -PI}}, {{HALF_PI, 1}, {PI, PI}}},
+    };
+    return r[n][k];
 }
+/* one that is refused with another number than reasons[n] */
+static sjurnabel_rect otherwise_bad(int n, int k) { return bad((n + 1 + k % (REASONS - 1)) % REASONS, k); }
 static const double bad_points[][2] = {{2, 0}, {-2, 0}, {0, 4}, {NAN, 0}, {0, NAN}, {INFINITY, 0}, {0, -INFINITY}, {HALF_PI + 1e-15, 0}};
 #define BAD_POINTS (sizeof bad_points / sizeof *bad_points)
 
@@ -85,55 +100,81 @@ static sjurnabel_pieces common(const double *list, size_t n, size_t room) { fill
 static bool piece(size_t k, double a, double b, double c, double d) {
     return same(out[1 + 4 * k], a) && same(out[2 + 4 * k], b) && same(out[3 + 4 * k], c) && same(out[4 + 4 * k], d);
 }
-static bool refuses(sjurnabel_pieces p, int refusal) { return p.refusal == refusal && p.count == 0 && only_written(0); }
+/* so many pieces, which alone were written, and no entry */
+static bool lists(sjurnabel_pieces p, size_t count) { return p.refusal == SJURNABEL_ACCEPTED && p.count == count && p.entry == 0 && only_written(4 * count); }
+static bool refuses_at(sjurnabel_pieces p, int refusal, size_t entry) { return p.refusal == refusal && p.count == 0 && p.entry == entry && only_written(0); }
+/* the numbers that no entry stands beside */
+static bool refuses(sjurnabel_pieces p, int refusal) { return refuses_at(p, refusal, 0); }
 
 static void common_region(void) {
     static double many[4 * 513];
     const double two[] = {0, 1, -1, 1, 0, 1, 1, -1};
-    sjurnabel_pieces p = common(two, 8, 8);
-    CHECK(p.refusal == SJURNABEL_ACCEPTED && p.count == 2 && only_written(8));
-    CHECK(piece(0, 0, 1, -1, -1) && piece(1, 0, 1, 1, 1));
-    p = common(two, 8, MOST);
-    CHECK(p.refusal == 0 && p.count == 2 && only_written(8));
+    CHECK(lists(common(two, 8, 8), 2) && piece(0, 0, 1, -1, -1) && piece(1, 0, 1, 1, 1));
+    CHECK(lists(common(two, 8, MOST), 2));
     const double four[] = {0, 1, 2, 1, 0, 1, 0.5, 0.25};
-    p = common(four, 8, 8);
-    CHECK(p.refusal == 0 && p.count == 2 && only_written(8) && piece(0, 0, 1, 0.5, 1) && piece(1, 0, 1, 2, 0.25));
+    CHECK(lists(common(four, 8, 8), 2) && piece(0, 0, 1, 0.5, 1) && piece(1, 0, 1, 2, 0.25));
     const double nearly[] = {0, 1, -PI, PI, 0, 1, NEAR_NEG_PI, PI};
-    p = common(nearly, 8, 8);
-    CHECK(p.refusal == 0 && p.count == 1 && only_written(4) && piece(0, 0, 1, NEAR_NEG_PI, PI));
+    CHECK(lists(common(nearly, 8, 8), 1) && piece(0, 0, 1, NEAR_NEG_PI, PI));
     double none = NAN;
-    p = common(&none, 0, 4);
-    CHECK(p.refusal == 0 && p.count == 1 && only_written(4) && piece(0, -HALF_PI, HALF_PI, -PI, PI));
+    CHECK(lists(common(&none, 0, 4), 1) && piece(0, -HALF_PI, HALF_PI, -PI, PI));
     CHECK(refuses(common(&none, 0, 3), SJURNABEL_NO_ROOM));
-    p = common((const double *)&EMPTY, 4, 0);
-    CHECK(p.refusal == 0 && p.count == 0 && only_written(0));
+    CHECK(lists(common(&EMPTY.lat.lo, 4, 0), 0));
     const double zeros[] = {-0.0, 1, -0.0, 1};
-    p = common(zeros, 4, 4);
-    CHECK(p.refusal == 0 && p.count == 1 && piece(0, 0, 1, 0, 1));
+    CHECK(lists(common(zeros, 4, 4), 1) && piece(0, 0, 1, 0, 1));
     const sjurnabel_rect zones[] = {{{0, 1}, {-1, 1}}, {{0.5, 1.5}, {0.5, -0.75}}};
-    p = common(&zones[0].lat.lo, 4 * 2, 9);
-    CHECK(p.refusal == 0 && p.count == 2 && only_written(8) && piece(0, 0.5, 1, -1, -0.75) && piece(1, 0.5, 1, 0.5, 1));
+    CHECK(lists(common(&zones[0].lat.lo, 4 * 2, 9), 2) && piece(0, 0.5, 1, -1, -0.75) && piece(1, 0.5, 1, 0.5, 1));
 
     /* refusals, in their order, and not a bit of the output changed */
     CHECK(refuses(common(two, 8, 7), SJURNABEL_NO_ROOM) && refuses(common(two, 8, 4), SJURNABEL_NO_ROOM) && refuses(common(two, 8, 0), SJURNABEL_NO_ROOM));
     for (size_t n = 1; n < 8; n++) if (n % 4) CHECK(refuses(common(two, n, 8), SJURNABEL_BAD_LIST));
-    for (int refusal = 1; refusal <= 2; refusal++)
-        for (int k = 0; k < 7; k++) {
-            const sjurnabel_rect list[] = {{{0, 1}, {-1, 1}}, bad(refusal, k), bad(3 - refusal, k)};
-            CHECK(refuses(common(&list[0].lat.lo, 12, 12), refusal));
-            CHECK(refuses(common(&list[0].lat.lo, 8, 0), refusal));
+    for (int n = 0; n < REASONS; n++)
+        for (int k = 0; k < KINDS; k++) {
+            const sjurnabel_rect list[] = {{{0, 1}, {-1, 1}}, bad(n, k), otherwise_bad(n, k)};
+            CHECK(refuses_at(common(&list[0].lat.lo, 12, 12), reasons[n], 1));
+            CHECK(refuses_at(common(&list[0].lat.lo, 8, 0), reasons[n], 1));
+            CHECK(refuses_at(common(&list[1].lat.lo, 8, 8), reasons[n], 0));
             CHECK(refuses(common(&list[0].lat.lo, 9, 12), SJURNABEL_BAD_LIST));
         }
     /* 512 arcs that all hold the meridian 0; then one more */
     for (int i = 0; i < 513; i++) { double r[] = {0, 1, -0.001 * (i + 1), 0.001 * (513 - i)}; memcpy(many + 4 * i, r, sizeof r); }
-    p = common(many, 4 * 512, 4);
-    CHECK(p.refusal == 0 && p.count == 1 && only_written(4) && piece(0, 0, 1, -0.001, 0.001 * 2));
+    CHECK(lists(common(many, 4 * 512, 4), 1) && piece(0, 0, 1, -0.001, 0.001 * 2));
     CHECK(refuses(common(many, 4 * 513, 4), SJURNABEL_BAD_LIST));
     /* arcs that each leave out one gap: 512 pieces of 512 */
     for (int i = 0; i < 512; i++) { double r[] = {0, 1, -3 + 0.01 * i + 0.001, -3 + 0.01 * i}; memcpy(many + 4 * i, r, sizeof r); }
-    p = common(many, 4 * 512, 4 * 512);
-    CHECK(p.refusal == 0 && p.count == 512 && only_written(4 * 512));
+    CHECK(lists(common(many, 4 * 512, 4 * 512), 512));
     CHECK(refuses(common(many, 4 * 512, 4 * 512 - 1), SJURNABEL_NO_ROOM));
+}
+
+/* ---- which rectangle of a list is refused ---- */
+static void entries(void) {
+    static sjurnabel_rect list[513];
+    static const size_t lengths[] = {1, 2, 3, 16, 17, 128, 129, 511, 512};
+    for (size_t l = 0; l < sizeof lengths / sizeof *lengths; l++) {
+        const size_t last = lengths[l] - 1, places[] = {0, last / 2, last};
+        /* arcs that cross the 180th meridian and arcs that do not, among them empty ones */
+        for (size_t i = 0; i <= last; i++) list[i] = i % 5 == 4 ? EMPTY : i % 2 ? rect(0, 1, 1, -1) : rect(-1, 1, -2, 2);
+        for (int n = 0; n < REASONS; n++)
+            for (int k = 0; k < KINDS; k++)
+                for (int place = 0; place < 3; place++) {
+                    const size_t at_entry = places[place];
+                    const sjurnabel_rect good = list[at_entry];
+                    list[at_entry] = bad(n, k);
+                    CHECK(refuses_at(common(&list[0].lat.lo, 4 * (last + 1), MOST), reasons[n], at_entry));
+                    CHECK(refuses_at(common(&list[0].lat.lo, 4 * (last + 1), 0), reasons[n], at_entry));
+                    /* a second one, of another kind, later in the list: the first is told */
+                    if (at_entry < last) {
+                        const sjurnabel_rect also_good = list[last];
+                        list[last] = otherwise_bad(n, k);
+                        CHECK(refuses_at(common(&list[0].lat.lo, 4 * (last + 1), MOST), reasons[n], at_entry));
+                        list[last] = also_good;
+                    }
+                    /* the length comes first, and 5 has no entry */
+                    CHECK(refuses(common(&list[0].lat.lo, 4 * (last + 1) - 1, MOST), SJURNABEL_BAD_LIST));
+                    CHECK(refuses(common(&list[0].lat.lo, 4 * 513, MOST), SJURNABEL_BAD_LIST));
+                    list[at_entry] = good;
+                }
+        CHECK(common(&list[0].lat.lo, 4 * (last + 1), MOST).refusal == SJURNABEL_ACCEPTED && common(&list[0].lat.lo, 4 * (last + 1), MOST).entry == 0);
+    }
 }
 
 /* ---- growth by value ---- */
@@ -155,10 +196,11 @@ static void growth(void) {
     const double seam[] = {0, -PI};
     CHECK(answers(sjurnabel_grow(EMPTY, seam, 2), 0, rect(0, 0, PI, PI)));
     for (size_t k = 0; k < BAD_POINTS; k++) CHECK(answers(sjurnabel_grow(start, bad_points[k], 2), SJURNABEL_BAD_POINT, start));
-    for (int refusal = 1; refusal <= 2; refusal++)
-        for (int k = 0; k < 7; k++) {
-            CHECK(answers(sjurnabel_grow(bad(refusal, k), last_bad, 4), refusal, EMPTY));
-            CHECK(answers(sjurnabel_grow(bad(refusal, k), last_bad, 3), SJURNABEL_BAD_LIST, bad(refusal, k)));
+    for (int n = 0; n < REASONS; n++)
+        for (int k = 0; k < KINDS; k++) {
+            const int refusal = reasons[n];
+            CHECK(answers(sjurnabel_grow(bad(n, k), last_bad, 4), refusal, EMPTY));
+            CHECK(answers(sjurnabel_grow(bad(n, k), last_bad, 3), SJURNABEL_BAD_LIST, bad(n, k)));
         }
     for (int i = 0; i < 4097; i++) { many[2 * i] = 0.0001 * i; many[2 * i + 1] = -0.0001 * i; }
     CHECK(answers(sjurnabel_grow(EMPTY, many, 2 * 4096), 0, rect(0, 0.0001 * 4095, -0.0001 * 4095, 0)));
@@ -195,11 +237,12 @@ static void scan(void) {
     CHECK(by_list(minus, last_bad, 4) == SJURNABEL_BAD_POINT && left(minus));
     CHECK(by_list(minus, two, 3) == SJURNABEL_BAD_LIST && left(minus));
     CHECK(by_list(minus, many, 2 * 4097) == SJURNABEL_BAD_LIST && left(minus));
-    for (int refusal = 1; refusal <= 2; refusal++)
-        for (int k = 0; k < 7; k++) {
-            CHECK(by_point(bad(refusal, k), 0, 4) == refusal && left(bad(refusal, k)));
-            CHECK(by_list(bad(refusal, k), last_bad, 4) == refusal && left(bad(refusal, k)));
-            CHECK(by_list(bad(refusal, k), last_bad, 3) == SJURNABEL_BAD_LIST && left(bad(refusal, k)));
+    for (int n = 0; n < REASONS; n++)
+        for (int k = 0; k < KINDS; k++) {
+            const int refusal = reasons[n];
+            CHECK(by_point(bad(n, k), 0, 4) == refusal && left(bad(n, k)));
+            CHECK(by_list(bad(n, k), last_bad, 4) == refusal && left(bad(n, k)));
+            CHECK(by_list(bad(n, k), last_bad, 3) == SJURNABEL_BAD_LIST && left(bad(n, k)));
         }
 }
 
@@ -221,10 +264,11 @@ static void rectangles(void) {
     CHECK(answers(sjurnabel_rect_expanded(rect(0, 0, 0, 0), at(2, 4)), 0, FULL));
     CHECK(answers(sjurnabel_rect_expanded(a, at(-0.25, -0.5)), 0, rect(0.25, 0.75, -0.5, 0.5)));
     CHECK(answers(sjurnabel_rect_expanded(a, at(REACH, -0.0)), 0, rect(-HALF_PI, HALF_PI, -1, 1)));
-    /* refusals: of the left before the right, 1 before 2 in each, then the point or the margins */
-    for (int refusal = 1; refusal <= 2; refusal++)
-        for (int k = 0; k < 7; k++) {
-            sjurnabel_rect r = bad(refusal, k), o = bad(3 - refusal, k);
+    /* refusals: of the left before the right, 1, 21, 22, 23 in each, then the point or the margins */
+    for (int n = 0; n < REASONS; n++)
+        for (int k = 0; k < KINDS; k++) {
+            const int refusal = reasons[n];
+            sjurnabel_rect r = bad(n, k), o = otherwise_bad(n, k);
             CHECK(says(sjurnabel_rect_contains(r, o), refusal, false) && says(sjurnabel_rect_contains(a, r), refusal, false));
             CHECK(says(sjurnabel_rect_intersects(r, o), refusal, false) && says(sjurnabel_rect_intersects(a, r), refusal, false));
             CHECK(says(sjurnabel_rect_contains_latlng(r, at(NAN, 0)), refusal, false));
@@ -265,10 +309,11 @@ static void rectangles_made(void) {
         CHECK(answers(sjurnabel_rect_from_center_size(at(0, 0), at(0, margins[k])), SJURNABEL_BAD_MARGIN, EMPTY));
     }
     CHECK(says(sjurnabel_latlng_is_valid(at(HALF_PI, -PI)), 0, true) && says(sjurnabel_latlng_is_valid(at(-0.0, PI)), 0, true));
-    for (int refusal = 1; refusal <= 2; refusal++)
-        for (int k = 0; k < 7; k++) {
-            CHECK(answers(sjurnabel_rect_polar_closure(bad(refusal, k)), refusal, EMPTY));
-            CHECK(answers(sjurnabel_rect_add(bad(refusal, k), at(NAN, 0)), refusal, EMPTY));
+    for (int n = 0; n < REASONS; n++)
+        for (int k = 0; k < KINDS; k++) {
+            const int refusal = reasons[n];
+            CHECK(answers(sjurnabel_rect_polar_closure(bad(n, k)), refusal, EMPTY));
+            CHECK(answers(sjurnabel_rect_add(bad(n, k), at(NAN, 0)), refusal, EMPTY));
         }
 }
 
@@ -294,9 +339,10 @@ static void rectangles_tested(void) {
     CHECK(says(sjurnabel_rect_eq(a, a), 0, true) && says(sjurnabel_rect_eq(EMPTY, rect(0, -1, PI, -PI)), 0, true) && says(sjurnabel_rect_eq(a, in), 0, false));
     CHECK(says(sjurnabel_rect_approx_eq(rect(0, 0, 0, 0), rect(5e-15, 5e-15, 0, 5e-15)), 0, true) && says(sjurnabel_rect_approx_eq(rect(0, 0, 0, 0), rect(0, 0, 1, 1)), 0, false));
     CHECK(says(sjurnabel_rect_approx_eq_by(rect(0, 0, 0, 0), rect(1, 1, 0, 0), at(1, 0)), 0, true) && says(sjurnabel_rect_approx_eq_by(rect(0, 0, 0, 0), rect(1, 1, 0, 0), at(0, 1)), 0, false));
-    for (int refusal = 1; refusal <= 2; refusal++)
-        for (int k = 0; k < 7; k++) {
-            const sjurnabel_rect r = bad(refusal, k), o = bad(3 - refusal, k);
+    for (int n = 0; n < REASONS; n++)
+        for (int k = 0; k < KINDS; k++) {
+            const int refusal = reasons[n];
+            const sjurnabel_rect r = bad(n, k), o = otherwise_bad(n, k);
             for (size_t f = 0; f < sizeof of_one / sizeof *of_one; f++) CHECK(says(of_one[f](r), refusal, false));
             for (size_t f = 0; f < sizeof of_two / sizeof *of_two; f++) CHECK(says(of_two[f](r, o), refusal, false) && says(of_two[f](a, r), refusal, false));
             for (size_t f = 0; f < sizeof of_points / sizeof *of_points; f++) CHECK(is_point(of_points[f](r), refusal, 0, 0));
@@ -328,7 +374,7 @@ static void circle(void) {
     CHECK(says(sjurnabel_circle_contains_interval(full, span(NEAR_NEG_PI, PI)), 0, true) && says(sjurnabel_circle_contains_interval(span(NEAR_NEG_PI, PI), full), 0, false));
     CHECK(says(sjurnabel_circle_contains_interval(a, empty), 0, true) && says(sjurnabel_circle_intersects(a, b), 0, true) && says(sjurnabel_circle_intersects(a, span(2, 3)), 0, false));
     for (int k = 0; k < 7; k++) {
-        const int refusal = k < 3 ? SJURNABEL_OUT_OF_REACH : SJURNABEL_NOT_VALID;
+        const int refusal = k < 3 ? SJURNABEL_OUT_OF_REACH : SJURNABEL_BAD_CIRCLE;
         const sjurnabel_interval r = bad_circle(k), o = bad_circle(k < 3 ? 3 : 0);
         CHECK(says(sjurnabel_circle_contains(r, NAN), refusal, false));
         CHECK(says(sjurnabel_circle_contains_interval(r, o), refusal, false) && says(sjurnabel_circle_contains_interval(a, r), refusal, false));
@@ -349,7 +395,7 @@ static void circle_made(void) {
     const sjurnabel_interval a = {-1, 1}, full = {-PI, PI}, empty = {PI, -PI};
     CHECK(gives(sjurnabel_circle_new(-PI, 1), 0, PI, 1) && gives(sjurnabel_circle_new(1, -PI), 0, 1, PI) && gives(sjurnabel_circle_new(-0.0, 1), 0, 0, 1));
     CHECK(gives(sjurnabel_circle_new(PI, -PI), 0, PI, -PI) && gives(sjurnabel_circle_new(-PI, PI), 0, -PI, PI));
-    CHECK(gives(sjurnabel_circle_from_line(span(0, 1)), 0, 0, 1) && gives(sjurnabel_circle_from_line(span(-PI, 1)), SJURNABEL_NOT_VALID, PI, -PI));
+    CHECK(gives(sjurnabel_circle_from_line(span(0, 1)), 0, 0, 1) && gives(sjurnabel_circle_from_line(span(-PI, 1)), SJURNABEL_BAD_CIRCLE, PI, -PI));
     CHECK(gives(sjurnabel_circle_to_line(span(1, -1)), 0, 1, -1) && gives(sjurnabel_circle_to_line(full), 0, -PI, PI));
     CHECK(gives(sjurnabel_circle_from_point_pair(3, -3), 0, 3, -3) && gives(sjurnabel_circle_from_point_pair(-3, 3), 0, 3, -3));
     CHECK(gives(sjurnabel_circle_from_point_pair(0, PI), 0, 0, PI) && gives(sjurnabel_circle_from_point_pair(PI, 0), 0, PI, 0) && gives(sjurnabel_circle_from_point_pair(-PI, -PI), 0, PI, PI));
@@ -368,7 +414,7 @@ static void circle_made(void) {
         CHECK(gives(sjurnabel_circle_add(span(-0.0, 1), points[k]), SJURNABEL_BAD_POINT, -0.0, 1));
         CHECK(gives(sjurnabel_circle_from_point_pair(points[k], 0), SJURNABEL_BAD_POINT, PI, -PI) && gives(sjurnabel_circle_from_point_pair(0, points[k]), SJURNABEL_BAD_POINT, PI, -PI));
         CHECK(is_number(sjurnabel_circle_positive_distance(points[k], 0), SJURNABEL_BAD_POINT, 0) && is_number(sjurnabel_circle_positive_distance(0, points[k]), SJURNABEL_BAD_POINT, 0));
-        CHECK(gives(sjurnabel_circle_new(points[k], 0), k < 2 ? SJURNABEL_OUT_OF_REACH : SJURNABEL_NOT_VALID, PI, -PI));
+        CHECK(gives(sjurnabel_circle_new(points[k], 0), k < 2 ? SJURNABEL_OUT_OF_REACH : SJURNABEL_BAD_CIRCLE, PI, -PI));
     }
     const double margins[] = {NAN, INFINITY, -INFINITY, PAST, -PAST};
     for (int k = 0; k < 5; k++) CHECK(gives(sjurnabel_circle_expanded(a, margins[k]), SJURNABEL_BAD_MARGIN, PI, -PI));
@@ -393,7 +439,7 @@ static void circle_tested(void) {
     CHECK(says(sjurnabel_circle_approx_eq(a, span(-1, 1 + 4e-15)), 0, true) && says(sjurnabel_circle_approx_eq(a, b), 0, false) && says(sjurnabel_circle_approx_eq(span(PI, PI), span(of_bits(0xC00921FB54442D16), of_bits(0xC00921FB54442D16))), 0, false));
     CHECK(says(sjurnabel_circle_approx_eq_by(span(0, 0), span(1, 1), 1), 0, true) && says(sjurnabel_circle_approx_eq_by(span(0, 0), span(1, 1), 0.5), 0, false) && says(sjurnabel_circle_approx_eq_by(empty, span(0, 1), 0.5), 0, false));
     for (int k = 0; k < 7; k++) {
-        const int refusal = k < 3 ? SJURNABEL_OUT_OF_REACH : SJURNABEL_NOT_VALID;
+        const int refusal = k < 3 ? SJURNABEL_OUT_OF_REACH : SJURNABEL_BAD_CIRCLE;
         const sjurnabel_interval r = bad_circle(k), o = bad_circle(k < 3 ? 3 : 0);
         for (size_t f = 0; f < sizeof of_one / sizeof *of_one; f++) CHECK(says(of_one[f](r), refusal, false));
         for (size_t f = 0; f < sizeof of_point / sizeof *of_point; f++) CHECK(says(of_point[f](r, NAN), refusal, false));
@@ -533,8 +579,63 @@ static void geojson(void) {
     CHECK(answers(sjurnabel_bbox_rect(box(900000000, -900000000, -900000000, 0)), 0, rect(-HALF_PI, 0, HALF_PI, -HALF_PI)));
 }
 
+/* ---- the version, the texts and the constants ---- */
+static void version(void) {
+    char numbers[40];
+    snprintf(numbers, sizeof numbers, "%d.%d.%d", SJURNABEL_VERSION_MAJOR, SJURNABEL_VERSION_MINOR, SJURNABEL_VERSION_PATCH);
+    CHECK(!strcmp(SJURNABEL_VERSION, numbers));
+    CHECK(!strcmp(sjurnabel_version(), SJURNABEL_VERSION) && sjurnabel_version() == sjurnabel_version());
+}
+
+/* short, of one line, and fit to follow a colon */
+static bool is_text(const char *t) { return t && strlen(t) > 5 && strlen(t) < 60 && !strpbrk(t, "\n\t%.") && t[0] >= 'a' && t[0] <= 'z'; }
+
+static void texts(void) {
+    static const int numbers[] = {SJURNABEL_ACCEPTED, SJURNABEL_OUT_OF_REACH, SJURNABEL_BAD_POINT, SJURNABEL_BAD_MARGIN, SJURNABEL_BAD_LIST, SJURNABEL_NO_ROOM, SJURNABEL_BAD_RECORD, SJURNABEL_BAD_TEXT, SJURNABEL_BAD_BOX, SJURNABEL_BAD_LATITUDE, SJURNABEL_BAD_CIRCLE, SJURNABEL_HALF_EMPTY};
+    static const int expected[] = {0, 1, 3, 4, 5, 6, 7, 8, 9, 21, 22, 23};
+    const size_t count = sizeof numbers / sizeof *numbers;
+    const char *const none = sjurnabel_refusal_text(2);
+    CHECK(count == sizeof expected / sizeof *expected && is_text(none));
+    for (size_t i = 0; i < count; i++) {
+        const char *const text = sjurnabel_refusal_text(numbers[i]);
+        CHECK(numbers[i] == expected[i] && is_text(text) && strcmp(text, none) && text == sjurnabel_refusal_text(numbers[i]));
+        for (size_t j = 0; j < i; j++) CHECK(strcmp(text, sjurnabel_refusal_text(numbers[j])));
+    }
+    /* every other number says the same: all that a byte can be, and far ones */
+    for (int n = -300; n <= 300; n++) {
+        bool known = false;
+        for (size_t i = 0; i < count; i++) if (numbers[i] == n) known = true;
+        if (!known) CHECK(!strcmp(sjurnabel_refusal_text(n), none));
+    }
+    static const int far[] = {INT_MIN, INT_MAX, 256 + 22, 1 << 30};
+    for (size_t i = 0; i < sizeof far / sizeof *far; i++) CHECK(!strcmp(sjurnabel_refusal_text(far[i]), none));
+}
+
+/* against the library's own answers */
+static void constants(void) {
+    static sjurnabel_rect empty = SJURNABEL_EMPTY_RECT_INIT, full = SJURNABEL_FULL_RECT_INIT;
+    double none = NAN;
+    CHECK(bits(SJURNABEL_PI) == 0x400921FB54442D18 && same(SJURNABEL_PI, PI) && same(SJURNABEL_PI / 2, HALF_PI));
+    CHECK(same_rect(SJURNABEL_EMPTY_RECT, EMPTY) && same_rect(SJURNABEL_FULL_RECT, FULL) && same_rect(empty, EMPTY) && same_rect(full, FULL));
+    CHECK(says(sjurnabel_rect_is_empty(SJURNABEL_EMPTY_RECT), 0, true) && says(sjurnabel_rect_is_full(SJURNABEL_EMPTY_RECT), 0, false));
+    CHECK(says(sjurnabel_rect_is_full(SJURNABEL_FULL_RECT), 0, true) && says(sjurnabel_rect_is_empty(SJURNABEL_FULL_RECT), 0, false));
+    CHECK(answers(sjurnabel_rect_union(bad(0, 0), FULL), SJURNABEL_OUT_OF_REACH, SJURNABEL_EMPTY_RECT));
+    CHECK(answers(sjurnabel_rect_expanded(rect(0, 0, 0, 0), at(-1, -1)), 0, SJURNABEL_EMPTY_RECT));
+    CHECK(answers(sjurnabel_rect_union(rect(-HALF_PI, 0, 0, PI), rect(0, HALF_PI, PI, 0)), 0, SJURNABEL_FULL_RECT));
+    CHECK(lists(common(&none, 0, 4), 1) && !memcmp(out + 1, &SJURNABEL_FULL_RECT, sizeof SJURNABEL_FULL_RECT));
+    CHECK(lists(common(&SJURNABEL_EMPTY_RECT.lat.lo, 4, 0), 0) && lists(common(&SJURNABEL_FULL_RECT.lat.lo, 4, 4), 1));
+    /* a seam of PI: the point -PI is the point PI */
+    CHECK(answers(sjurnabel_rect_from_latlng(at(0, -SJURNABEL_PI)), 0, rect(0, 0, SJURNABEL_PI, SJURNABEL_PI)));
+    /* a running box starts as the empty one */
+    CHECK(by_point(SJURNABEL_EMPTY_RECT, 1, 2) == 0 && left(rect(1, 1, 2, 2)));
+}
+
 int main(void) {
+    version();
+    texts();
+    constants();
     common_region();
+    entries();
     growth();
     scan();
     rectangles();

@@ -175,6 +175,13 @@ static bool rect_vertex(const char *s) {
     return point(sjurnabel_rect_vertex(R(0), (uint8_t)strtoul(s + 4 * 17, NULL, 16))), true;
 }
 
+/* the refusal of a list of rectangles: ` at ENTRY` where one of them is refused, and the entry is 0 beside any other number */
+static void put_list_refusal(int refusal, size_t entry) {
+    put("%llu", (unsigned)refusal);
+    if (refusal == SJURNABEL_OUT_OF_REACH || refusal == SJURNABEL_BAD_LATITUDE || refusal == SJURNABEL_BAD_CIRCLE || refusal == SJURNABEL_HALF_EMPTY) put(" at %llu", entry);
+    else if (entry) put(" with the entry %llu", entry);
+}
+
 /* ROOM | NUMBERS: the output is 42 everywhere before */
 static bool common(const char *s) {
     char *bar;
@@ -183,7 +190,7 @@ static bool common(const char *s) {
     if (n < 0) return false;
     for (size_t i = 0; i < room; i++) out[i] = 42;
     sjurnabel_pieces p = sjurnabel_common_region(x, (size_t)n, out, room);
-    put("%llu", p.refusal), put(" %llu", p.count);
+    put_list_refusal(p.refusal, p.entry), put(" %llu", p.count);
     for (size_t i = 0; i < room; i++) put_double(out[i]);
     return true;
 }

@@ -64,5 +64,5 @@ fn put(list: &[f64], x: &mut [f64], at: usize, out: &mut [u8]) -> usize
     ensures { λ r. ⌜ r ≤ length (now (out .exit)) ⌝ }
 {
     let p = common_region(list, x);
-    print::pieces(p.refusal, p.count, x, at, out)
+    print::pieces(p, x, at, out)
 }

@@ -3,6 +3,8 @@
 // and a whole number in decimal, a text as it is.
 use crate::reply::Reply;
 use bounds::Bounds;
+use entries::of_entry;
+use region::Pieces;
 ghost use mathlib.Core.Path.{_≡_};
 ghost use Prim.Native.Nat.{_+_, _*_, _≤_, _<_};
 ghost use lib.ListN.{length};
@@ -43,13 +45,15 @@ pub(crate) fn unknown(at: usize, out: &mut [u8]) -> usize
     put(b"?\n", at, out)
 }
 
-// Puts the line of a common region: the refusal, the count of its pieces, and the list that they are in.
-pub(crate) fn pieces(n: u8, count: usize, x: &[f64], at: usize, out: &mut [u8]) -> usize
+// Puts the line of a common region: the refusal, with its entry where an entry is refused, the count of its
+// pieces, and the list that they are in.
+pub(crate) fn pieces(p: Pieces, x: &[f64], at: usize, out: &mut [u8]) -> usize
     requires { ⌜ at + room ≤ length (now out) ⌝ }
     requires { ⌜ length (now x) ≤ 2052 ⌝ }
     ensures { λ r. ⌜ r ≤ length (now (out .exit)) ⌝ }
 {
-    let end = numbers(x, counted(n, count, at, out), out);
+    let head = put(b" ", refused(p.refusal, p.entry, at, out), out);
+    let end = numbers(x, decimal(p.count as u64, head, out), out);
     put(b"\n", end, out)
 }
 
@@ -79,6 +83,18 @@ fn refusal(n: u8, at: usize, out: &mut [u8]) -> usize
     ensures { λ r. ⌜ r ≤ at + 20 ⌝ }
 {
     decimal(n as u64, at, out)
+}
+
+// Puts a refusal number, with ` at ` and its entry where it is one of an entry.
+fn refused(n: u8, entry: usize, at: usize, out: &mut [u8]) -> usize
+    requires { ⌜ at + 44 ≤ length (now out) ⌝ }
+    ensures { λ r. ⌜ r ≤ at + 44 ⌝ }
+{
+    let end = refusal(n, at, out);
+    if of_entry(n) {
+        return decimal(entry as u64, put(b" at ", end, out), out);
+    }
+    end
 }
 
 // Puts a refusal number, a space and a count.

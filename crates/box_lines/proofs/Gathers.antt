@@ -7,7 +7,7 @@ use borrow.Author.Tests.{lt-ltb}
 use lib.ListN.{length, take}
 use lib.IntN.{ℤ}
 use Rattle.consts.specs.Refusal.{number, badList, badText}
-use Rattle.text.specs.Answers.{wrote, left, wroteRefusal, leftRefusal, wroteRefusalAt, leftRefusalAt}
+use Rattle.text.specs.Answers.{wrote, left, wroteRefusal, leftRefusal, wroteRefusalAtLine, leftRefusalAtLine}
 use Rattle.bounds.specs.declared.bounds.Bounds.{Bounds}
 use Rattle.box_lines.specs.declared.gather.Gathered.{Gathered}
 use Rattle.box_lines.specs.declared.gather.Gathered.the-variants as gathered
@@ -49,8 +49,8 @@ fault-as : (s : List ℕ) (n k : ℕ) (l : List ℤ) → IsGathered s (gathered.
 fault-as s _ _ _ (one-refused n k l e h) = (e, h)
 
 pub fault-text : (s : List ℕ) (g : Gathered) (n k : ℕ) (l : List ℤ) → IsGathered s g l → g ≡ gathered.Fault n k → (out : List ℕ)
-    → (wroteRefusalAt n k (length out) ≡ wrote (answerText s) (length out)) × (leftRefusalAt n k out ≡ left (answerText s) out)
-unfolding answerText answerOf wroteRefusalAt leftRefusalAt
+    → (wroteRefusalAtLine n k (length out) ≡ wrote (answerText s) (length out)) × (leftRefusalAtLine n k out ≡ left (answerText s) out)
+unfolding answerText answerOf wroteRefusalAtLine leftRefusalAtLine
 fault-text s g n k l h e out =
     let f = fault-as s n k l (subst (λ (x : Gathered). IsGathered s x l) e h) in
     (simp (f .0, lt-ltb k 1000 (f .1)), simp (f .0, lt-ltb k 1000 (f .1)))

@@ -1,6 +1,6 @@
 -- What the program `boxes` promises of GeoJSON boxes, one a line, each as one theorem with all that it asks in its own signature: document 02 (T-01) for each line, and
 -- document 01's demand 3 for the boxes that go out. Each is a law of the modules beside this one. Assumes nothing.
-use mathlib.Core.Path.{_≡_}
+use mathlib.Core.Path.{_≡_, ap}
 use mathlib.Core.List.{List, []}
 use Prim.Native.Nat.{ℕ, _≤_, _<_}
 use lib.ListN.{length}
@@ -8,12 +8,12 @@ use lib.IntN.{ℤ}
 use lib.Ieee.{Float}
 use Rattle.consts.specs.Refusal.{number, badText}
 use Rattle.entries.specs.Lists.{All, Mem}
-use Rattle.text.specs.Text.{refusedText}
+use Rattle.text.specs.Text.{refusedText, refusedAtLineText}
 use Rattle.region.specs.CommonRegion.{CommonRegion}
 use Rattle.region.specs.Answers.{piecesOf}
 use Rattle.bounds.specs.declared.bounds.Bounds.{Bounds}
 use Rattle.box_lines.specs.Lines.{NoLine, Boxes, Fault, TooMany, linesOf}
-use Rattle.box_lines.specs.Answers.{Given, rects, wholes, inRadians, wholeOf, commonBoxes, boxLines, answerText}
+use Rattle.box_lines.specs.Answers.{Given, rects, wholes, inRadians, wholeOf, commonBoxes, boxLines, answerOf, answerText}
 use Rattle.box_lines.proofs.Back as back
 use Rattle.box_lines.proofs.Back.{Small, Found}
 use Rattle.box_lines.proofs.Common as common
@@ -34,9 +34,10 @@ no-line = laws.no-line
 pub only-empty-text : (s : List ℕ) → linesOf s ≡ NoLine → s ≡ []
 only-empty-text s e = laws.no-text s e
 
--- "The first fault .. decides", on its line
-pub first-fault-decides : (s : List ℕ) (n k : ℕ) → linesOf s ≡ Fault n k → FirstFault s n k
-first-fault-decides s n k e = laws.first-fault s n k e
+-- "The first fault .. decides", and is told with its line: `refused 8 at line 2`
+pub first-fault-decides : (s : List ℕ) (n k : ℕ) → linesOf s ≡ Fault n k → FirstFault s n k × (answerText s ≡ refusedAtLineText n k)
+unfolding answerText answerOf
+first-fault-decides s n k e = (laws.first-fault s n k e, ap answerOf e)
 
 -- a 513th line is one too many where no line before it has a fault
 pub one-too-many : (s : List ℕ) → linesOf s ≡ TooMany → Over s

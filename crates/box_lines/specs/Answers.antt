@@ -11,7 +11,7 @@ use Rattle.consts.specs.Refusal.{number, badList, badText}
 use Rattle.s2.specs.declared.rect.Rect.{Rect}
 use Rattle.entries.specs.Inputs.{inTurn}
 use Rattle.region.specs.Answers.{piecesOf}
-use Rattle.text.specs.Text.{refusedText, refusedAtText}
+use Rattle.text.specs.Text.{refusedText, refusedAtLineText}
 use Rattle.bounds.specs.declared.bounds.Bounds.{Bounds}
 use Rattle.bounds.specs.Bounds.{HALF, QUARTER, givable}
 use Rattle.bbox_text.specs.Text.{textOf}
@@ -73,7 +73,7 @@ boxLines l = inTurn boxLine l
 unfoldable pub answerOf : Lines → List ℕ
 answerOf NoLine = refusedText (number badText)
 answerOf (Boxes l) = boxLines (commonBoxes l)
-answerOf (Fault n k) = refusedAtText n k
+answerOf (Fault n k) = refusedAtLineText n k
 answerOf TooMany = refusedText (number badList)
 
 unfoldable pub answerText : List ℕ → List ℕ

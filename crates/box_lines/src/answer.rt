@@ -1,5 +1,5 @@
 // What the program `boxes` writes for a text: the common region of its boxes, one a line, or the refusal
-// of its first fault, or of a text without a line.
+// of its first fault with its line, or the refusal of a text without a line.
 use crate::gather::Gathered;
 use crate::gather::gather;
 use crate::wholes::box_of;
@@ -11,7 +11,7 @@ use consts::BAD_TEXT;
 use region::common_region;
 use text::Written;
 use text::write_refusal;
-use text::write_refusal_at;
+use text::write_refusal_at_line;
 use text::write_text;
 ghost use mathlib.Core.Path.{_≡_};
 ghost use mathlib.Core.List.{_++_};
@@ -85,8 +85,9 @@ fn listed(list: &[i64], out: &mut [u8]) -> Written
 // Laws: Laws.no-line, Laws.no-text, Laws.lines-given, Laws.some-line, Laws.first-fault,
 // Laws.too-many, Laws.answer-boxes; Again.again; Common.common-boxes, Common.all-given,
 // Common.only-these, Common.at-most, Common.any-order.
-// Ruled out: of no bytes: `[-180,-90,180,90]`, or nothing, or `refused 8 at 1` (it is `refused 8`);
-// of two lines of which the second is bad: `refused 8 at 1`; of an edge 0.1: 0.0999999.
+// Ruled out: of no bytes: `[-180,-90,180,90]`, or nothing, or `refused 8 at line 1` (it is
+// `refused 8`); of two lines of which the second is bad: `refused 8 at line 1`, or `refused 8 at 1`
+// (it is `refused 8 at line 2`); of an edge 0.1: 0.0999999.
 pub fn boxes_text(s: &[u8], out: &mut [u8]) -> Written
     ensures { λ r. ⌜ r ≡ wrote (answerText (now (s .entry))) (length (now (out .entry))) ⌝ }
     ensures { λ _. ⌜ now (out .exit) ≡ left (answerText (now (s .entry))) (now (out .entry)) ⌝ }
@@ -99,7 +100,7 @@ pub fn boxes_text(s: &[u8], out: &mut [u8]) -> Written
             let n = 4 * k + 4;
             listed(&list[..n], out)
         }
-        Gathered::Fault(refusal, line) => write_refusal_at(refusal, line, out),
+        Gathered::Fault(refusal, line) => write_refusal_at_line(refusal, line, out),
         Gathered::TooMany => write_refusal(BAD_LIST, out),
     }
 }

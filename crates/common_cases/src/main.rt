@@ -10,8 +10,8 @@ use crate::answers::read;
 ghost use Prim.Native.Nat.{_≤_, _<_};
 ghost use lib.ListN.{length};
 
-// Room for all cases: they have 94,249 bytes.
-const LIMIT: usize = 131072;
+// Room for all cases: they have 170,287 bytes.
+const LIMIT: usize = 196608;
 
 fn main() {
     let mut s = [0u8; LIMIT];

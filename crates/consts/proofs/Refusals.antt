@@ -7,6 +7,11 @@ use Prim.Native.Nat.{ℕ}
 use lib.Dec.{eqb}
 use Rattle.consts.specs.Refusal.{given, GivenExactly, GivenInTurn}
 
+-- one of two reasons, by a test
+abbrev pub either : Bool → Type 0 → Type 0 → Type 0
+either true p q = p
+either false p q = q
+
 -- ---- by one test, or by two
 module _ {A : Type 0} (numberOf : A → ℕ) where
   pub chosen : (t : Bool) {P : Type 0} (a answer refused : A) → a ≡ cond t answer refused → numberOf answer ≡ 0 → (numberOf refused ≡ 0 → ⊥) → (t ≡ false) ↔ P

@@ -1,6 +1,6 @@
 -- Document 01's refusal numbers, and those that document 02 adds: why something is refused, and the number of each. Definitions only.
 use mathlib.Core.Path.{_≡_}
-use mathlib.Core.Bool.{cond}
+use mathlib.Core.Bool.{Bool, _||_, cond}
 use mathlib.Core.Logic.{_↔_}
 use Prim.Native.Nat.{ℕ}
 use lib.Dec.{eqb}
@@ -10,8 +10,12 @@ pub data Reason : Type 0 where
   accepted : Reason
   -- a rectangle or an interval has a number out of reach
   outOfReach : Reason
-  -- its numbers are in reach, and it is not valid
-  notValid : Reason
+  -- its numbers are in reach, and it is not valid, by the first of three: its latitudes go over their range, lat.lo by its size or lat.hi by its value
+  badLatitude : Reason
+  -- the circle interval is not valid
+  badCircle : Reason
+  -- one of its parts is empty, and the other is not
+  halfEmpty : Reason
   -- a point is no valid latlng, is of size over PI on the circle, or is out of reach on the line
   badPoint : Reason
   -- a margin, a size or an error is out of reach; a remainder's argument is NaN or of size over 4 PI
@@ -30,7 +34,9 @@ pub data Reason : Type 0 where
 abbrev pub number : Reason → ℕ
 number accepted = 0
 number outOfReach = 1
-number notValid = 2
+number badLatitude = 21
+number badCircle = 22
+number halfEmpty = 23
 number badPoint = 3
 number badMargin = 4
 number badList = 5
@@ -38,6 +44,15 @@ number noRoom = 6
 number badRecord = 7
 number badText = 8
 number badBox = 9
+
+-- why a rectangle whose numbers are in reach is not valid, or 0: its latitudes are within their range, its circle interval is valid, its parts are both empty or
+-- neither is; the first of these three that does not hold decides
+unfoldable pub firstFault : Bool → Bool → Bool → ℕ
+firstFault latitudes circle parts = cond latitudes (cond circle (cond parts (number accepted) (number halfEmpty)) (number badCircle)) (number badLatitude)
+
+-- the numbers of a rectangle, which in a list are told with the entry that they stand at
+unfoldable pub ofEntry : ℕ → Bool
+ofEntry n = eqb n (number outOfReach) || eqb n (number badLatitude) || eqb n (number badCircle) || eqb n (number halfEmpty)
 
 -- of two refusals the one that is given: the second counts where the first is 0
 unfoldable pub firstRefusal : ℕ → ℕ → ℕ

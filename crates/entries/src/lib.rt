@@ -7,4 +7,5 @@ mod records;
 pub use records::First;
 pub use records::no_number;
 pub use records::number_at;
+pub use records::of_entry;
 pub use records::whole;

@@ -1,13 +1,27 @@
 // What lists of any records share.
+use consts::BAD_CIRCLE;
+use consts::BAD_LATITUDE;
+use consts::HALF_EMPTY;
+use consts::OUT_OF_REACH;
 ghost use mathlib.Core.Path.{_≡_};
 ghost use lib.ListN.{getD};
 ghost use lib.Ieee.{nan};
+ghost use Rattle.consts.specs.Refusal.{ofEntry};
 ghost use Rattle.entries.specs.Lists.{wholeLength};
 
 // The first refusal of a list, and the entry that it stands at, counted from zero: 0 beside 0.
 pub struct First {
     pub refusal: u8,
     pub entry: usize,
+}
+
+// Whether a refusal number is that of an entry, and is told with it: the numbers of a rectangle are.
+// Laws: lists.Promises.entry-numbers.
+// Ruled out: of 22: no; of 5: yes; of 0: yes.
+pub fn of_entry(n: u8) -> bool
+    ensures { λ b. ⌜ b ≡ ofEntry n ⌝ }
+{
+    (n == OUT_OF_REACH) | (n == BAD_LATITUDE) | (n == BAD_CIRCLE) | (n == HALF_EMPTY)
 }
 
 // Whether n numbers are whole records of `size` numbers each, at most `limit` of them.

@@ -5,7 +5,7 @@ use mathlib.Core.List.{[], _∷_}
 use lib.Ieee as Ieee
 use lib.Ieee.{Float, binary64, ofBits, nan, lt, le, eq}
 use Rattle.consts.specs.Constants.{PI, NEG-PI}
-use Rattle.consts.specs.Refusal.{firstRefusal}
+use Rattle.consts.specs.Refusal.{firstFault, firstRefusal}
 use Rattle.consts.specs.Reading.{inReach, plain}
 use Rattle.r1.specs.Line as line
 use Rattle.s1.specs.Circle as circle
@@ -13,8 +13,8 @@ use Rattle.s1.specs.Circle.{fastContains, seam, positiveDistance}
 use Rattle.s1.specs.Reading.{onCircle}
 use Rattle.s2.specs.declared.rect.Rect.{Rect}
 use Rattle.s2.specs.Zone as zone
-use Rattle.s2.specs.Zone.{box, EMPTY, latitude, isValid, isLatLng}
-use Rattle.s2.specs.Reading.{rectInReach, asRead, readOne, readPoint}
+use Rattle.s2.specs.Zone.{box, EMPTY, latitude, isLatLng}
+use Rattle.s2.specs.Reading.{rectInReach, asRead, faultOf, readOne, readPoint}
 use Rattle.s2.specs.Answers.{rectAnswer, emptyUnder, add}
 use Rattle.entries.specs.Lists.{wholeLength}
 use Rattle.lists.specs.Points.{pointsOf}
@@ -65,15 +65,15 @@ pub record Examples : Type 0 where
   pub no-points : grow start [] ≡ rectAnswer (square zero one)
   -- the longitude 4 is no point: the whole list is refused with 3, and the start keeps its bits
   pub bad-point : grow start (half ∷ two ∷ one ∷ four ∷ []) ≡ under 3 start
-  -- 1 and 2 of the start come before 3, and answer the standard empty
+  -- 1 and 21 of the start come before 3, and answer the standard empty
   pub bad-start : grow unknown (one ∷ four ∷ []) ≡ emptyUnder 1
-  pub tall-start : grow tall (one ∷ four ∷ []) ≡ emptyUnder 2
+  pub tall-start : grow tall (one ∷ four ∷ []) ≡ emptyUnder 21
   -- 5 comes before all, and hands back even a start that is not valid
   pub half-point : grow start (one ∷ []) ≡ under 5 start
   pub half-point-first : grow unknown (one ∷ []) ≡ under 5 unknown
 
 pub examples : Examples
-unfolding grow grownByPoints grownFrom wholeLength pointsOf firstNumber firstRefusal grownAll add readOne readPoint asRead rectInReach isValid isLatLng latitude onCircle inReach plain zone.add line.add line.isEmpty circle.add circle.isValid circle.isEmpty fastContains seam positiveDistance ofBits lt le eq Ieee.add Ieee.sub
+unfolding grow grownByPoints grownFrom wholeLength pointsOf firstNumber firstRefusal firstFault grownAll add readOne faultOf readPoint asRead rectInReach isLatLng latitude onCircle inReach plain zone.add line.add line.isEmpty circle.add circle.isValid circle.isEmpty fastContains seam positiveDistance ofBits lt le eq Ieee.add Ieee.sub
 examples =
     record {
       grows = refl;

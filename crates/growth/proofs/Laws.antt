@@ -8,46 +8,40 @@ use mathlib.Core.List.{List, [], _∷_}
 use mathlib.Core.Logic.{_⊎_, inl, inr, _↔_}
 use Prim.Native.Nat.{ℕ, zero, suc}
 use native.Mathlib.Omega.{arith}
-use borrow.Author.Tests.{eqb-true}
+use borrow.Author.Tests.{eqb-true, eqb-false, ne-eqb}
 use lib.Dec.{eqb}
 use lib.Ieee.{Float}
-use Rattle.consts.specs.Refusal.{number, accepted, outOfReach, notValid, badPoint, badList, firstRefusal, given}
+use Rattle.consts.specs.Refusal.{number, accepted, badPoint, badList, ofEntry, firstRefusal, given}
+use Rattle.consts.proofs.Refusals.{either}
 use Rattle.s2.specs.declared.latlng.LatLng.{LatLng}
 use Rattle.s2.specs.declared.rect.Rect.{Rect}
 use Rattle.s2.specs.declared.rect.Answer.{Answer}
 use Rattle.s2.specs.declared.reading.One.{One}
 use Rattle.s2.specs.declared.reading.Pair.{Pair}
 use Rattle.s2.specs.Zone as zone
-use Rattle.s2.specs.Zone.{at, isValid, isLatLng}
-use Rattle.s2.specs.Reading.{rectInReach, asRead, plainPoint, readOne, readPoint, NoMinusRect}
+use Rattle.s2.specs.Zone.{at, isLatLng}
+use Rattle.s2.specs.Reading.{asRead, plainPoint, readOne, readPoint, NoMinusRect}
 use Rattle.s2.specs.Answers.{rectAnswer, emptyUnder, add}
 use Rattle.s2.specs.Places.{placeOf, Valid, ValidPoint, holds, Inside}
-use Rattle.s2.proofs.Readings.{one-in, one-out, one-not-valid, point-in, point-bad, valid-read, valid-point-plain, holds-read}
+use Rattle.s2.proofs.Readings.{one-in, point-in, point-bad, valid-read, valid-point-plain, holds-read}
 use Rattle.s2.proofs.Accepted.{add-is}
 use Rattle.s2.proofs.Valid.{read-add-valid, add-valid}
 use Rattle.s2.proofs.Zeros.{read-plain, add-plain}
-use Rattle.s2.proofs.Differences.{add-out, add-not-valid}
+use Rattle.s2.proofs.Differences.{add-start-refused}
+use Rattle.s2.proofs.Refusals.{never}
 use Rattle.s2.proofs.Places.{point-place, add-holds, add-refused}
 use Rattle.entries.specs.Lists.{Mem, first, later, All, wholeLength, whole}
 use Rattle.lists.specs.Points.{pointsOf}
 use Rattle.entries.specs.First.{firstNumber}
-use Rattle.lists.specs.Refused.{firstBad}
-use Rattle.lists.proofs.Doubles.{Doubles, DoublePoint, valid-of, point-of, points-accepted, good-points, bad-among, points-decided}
+use Rattle.lists.specs.Refused.{ofRect, firstBad}
+use Rattle.lists.proofs.Doubles.{Doubles, DoublePoint, accepted-valid, rect-decided, point-of, points-accepted, good-points, bad-among, points-decided}
 use Rattle.growth.specs.Growth.{under, grownAll, grownFrom, grownByPoints, grow, oneByOne, wholeOrNone}
 
 -- ---- within the limits
 -- a start that is accepted is valid as it is read, and growth by a point that is accepted keeps it so
 pub start-valid : (r : Rect) → Doubles r → (x : One) → x ≡ readOne r → x .refusal ≡ 0 → Valid (x .value)
 unfolding readOne
-start-valid r d x e k = subst (λ (y : One). Valid (y .value)) (sym e) (go (rectInReach r) (isValid r) refl refl)
-  where
-    none : readOne r .refusal ≡ 0
-    none = ap (λ (y : One). y .refusal) (sym e) ∙ k
-
-    go : (s t : Bool) → rectInReach r ≡ s → isValid r ≡ t → Valid (asRead r)
-    go true true a b = valid-read (valid-of r d a b)
-    go true false a b = absurd (omega (arith, sym (one-not-valid r a b) ∙ none))
-    go false t a b = absurd (omega (arith, sym (one-out r a) ∙ none))
+start-valid r d x e k = subst (λ (y : One). Valid (y .value)) (sym e) (valid-read (accepted-valid r d (ap (λ (y : One). y .refusal) (sym e) ∙ k)))
 
 pub turn-valid : (q : Rect) → Valid q → (p : LatLng) → DoublePoint p → (x : Pair) → x ≡ readPoint p → x .refusal ≡ 0 → Valid (zone.add q (x .value))
 unfolding readPoint
@@ -101,40 +95,33 @@ from-one-by-one s r (p ∷ l) v d = go (isLatLng p) refl (λ q. from-one-by-one 
     go true e ih = let q = point-of p (d .0) e in from-more s r v p l q ∙ ih q ∙ ap (wholeOrNone s) (sym (one-more s r v p l q))
     go false e ih = from-bad s r v p l e ∙ ap (wholeOrNone s) (sym (one-bad s r v p l e))
 
--- ---- a start that is refused itself: 1 or 2, and the standard empty, whatever the points are
-module _ (r : Rect) (ps : List LatLng) where
-  points-out : rectInReach r ≡ false → grownByPoints r ps ≡ emptyUnder (number outOfReach)
-  unfolding grownByPoints
-  points-out h = simp (one-out r h)
+-- ---- a start that is refused itself: its number, and the standard empty, whatever the points are
+points-refused : (r : Rect) (ps : List LatLng) → (ofRect r ≡ 0 → ⊥) → grownByPoints r ps ≡ emptyUnder (ofRect r)
+unfolding grownByPoints
+points-refused r ps h = simp (ne-eqb (ofRect r) 0 h)
 
-  points-not-valid : rectInReach r ≡ true → isValid r ≡ false → grownByPoints r ps ≡ emptyUnder (number notValid)
-  unfolding grownByPoints
-  points-not-valid k h = simp (one-not-valid r k h)
-
-one-by-one-out : (r : Rect) (ps : List LatLng) → rectInReach r ≡ false → oneByOne r ps ≡ emptyUnder (number outOfReach)
+one-by-one-refused : (r : Rect) (ps : List LatLng) → (ofRect r ≡ 0 → ⊥) → oneByOne r ps ≡ emptyUnder (ofRect r)
 unfolding oneByOne
-one-by-one-out r [] h = simp (one-out r h)
-one-by-one-out r (p ∷ l) h = simp (add-out r p h)
-
-one-by-one-not-valid : (r : Rect) (ps : List LatLng) → rectInReach r ≡ true → isValid r ≡ false → oneByOne r ps ≡ emptyUnder (number notValid)
-unfolding oneByOne
-one-by-one-not-valid r [] k h = simp (one-not-valid r k h)
-one-by-one-not-valid r (p ∷ l) k h = simp (add-not-valid r p k h)
+one-by-one-refused r [] h = simp (ne-eqb (ofRect r) 0 h)
+one-by-one-refused r (p ∷ l) h = simp (add-start-refused r p h, ne-eqb (ofRect r) 0 h)
 
 points-valid : (r : Rect) (ps : List LatLng) → Valid r → grownByPoints r ps ≡ grownFrom r (asRead r) ps
 unfolding grownByPoints
 points-valid r ps v = simp (one-in r v)
 
--- ---- growth by a list is growth by its points one by one, first to last: the same number; where it is accepted, the same rectangle; under 1 and 2 the
+-- ---- growth by a list is growth by its points one by one, first to last: the same number; where it is accepted, the same rectangle; under a number of the start the
 -- standard empty. Under 3 the whole list is refused, and the start comes back
 pub one-by-one : (r : Rect) (l : List Float) → Doubles r → All DoublePoint (pointsOf l) → whole 2 4096 l ≡ true → grow r l ≡ wholeOrNone r (oneByOne r (pointsOf l))
 unfolding grow wholeOrNone
-one-by-one r l d e w = rw w (go (rectInReach r) (isValid r) refl refl)
+one-by-one r l d e w = rw w (go (rect-decided r d))
   where
-    go : (a b : Bool) → rectInReach r ≡ a → isValid r ≡ b → grownByPoints r (pointsOf l) ≡ wholeOrNone r (oneByOne r (pointsOf l))
-    go true true k h = let v = valid-of r d k h in points-valid r (pointsOf l) v ∙ from-one-by-one r r (pointsOf l) v e
-    go true false k h = points-not-valid r (pointsOf l) k h ∙ ap (wholeOrNone r) (sym (one-by-one-not-valid r (pointsOf l) k h))
-    go false b k h = points-out r (pointsOf l) k ∙ ap (wholeOrNone r) (sym (one-by-one-out r (pointsOf l) k))
+    -- a start's number is not 3, so that nothing is given up
+    kept : (n : ℕ) → ofRect r ≡ n → emptyUnder n ≡ wholeOrNone r (emptyUnder n)
+    kept n q = simp (ne-eqb n 3 (λ z. never r 3 (unfold ofEntry in refl) (q ∙ z)))
+
+    go : Valid r ⊎ (ofRect r ≡ 0 → ⊥) → grownByPoints r (pointsOf l) ≡ wholeOrNone r (oneByOne r (pointsOf l))
+    go (inl v) = points-valid r (pointsOf l) v ∙ from-one-by-one r r (pointsOf l) v e
+    go (inr h) = points-refused r (pointsOf l) h ∙ kept (ofRect r) refl ∙ ap (wholeOrNone r) (sym (one-by-one-refused r (pointsOf l) h))
 
 number-kept : (r : Rect) (a : Answer) → wholeOrNone r a .refusal ≡ a .refusal
 unfolding wholeOrNone
@@ -172,14 +159,10 @@ pub list-refused : (r : Rect) (l : List Float) → whole 2 4096 l ≡ false → 
 unfolding grow
 list-refused r l w = simp w
 
--- then the start's 1 or 2, whatever the points are
-pub start-out-of-reach : (r : Rect) (l : List Float) → whole 2 4096 l ≡ true → rectInReach r ≡ false → grow r l ≡ emptyUnder (number outOfReach)
+-- then the start's own number, with the standard empty, whatever the points are
+pub start-refused : (r : Rect) (l : List Float) → whole 2 4096 l ≡ true → (ofRect r ≡ 0 → ⊥) → grow r l ≡ emptyUnder (ofRect r)
 unfolding grow
-start-out-of-reach r l w h = rw w (points-out r (pointsOf l) h)
-
-pub start-not-valid : (r : Rect) (l : List Float) → whole 2 4096 l ≡ true → rectInReach r ≡ true → isValid r ≡ false → grow r l ≡ emptyUnder (number notValid)
-unfolding grow
-start-not-valid r l w k h = rw w (points-not-valid r (pointsOf l) k h)
+start-refused r l w h = rw w (points-refused r (pointsOf l) h)
 
 -- then 3 where one of the points is bad: the start comes back as it came
 first-bad : (r : Rect) (l : List Float) → whole 2 4096 l ≡ true → Valid r → firstBad (pointsOf l) ≡ number badPoint → grow r l ≡ under (number badPoint) r
@@ -200,52 +183,59 @@ pub accepted-is : (r : Rect) (l : List Float) → Accepted r l → grow r l ≡ 
 unfolding grow grownFrom
 accepted-is r l a = rw (a .whole) (points-valid r (pointsOf l) (a .start) ∙ simp (good-points (pointsOf l) (a .points)))
 
--- ---- every growth is one of five, in the order of the refusals
+-- ---- every growth is one of four, in the order of the refusals
 pub data IsGrown (r : Rect) (l : List Float) : Answer → Type 0 where
   bad-list : whole 2 4096 l ≡ false → IsGrown r l (under (number badList) r)
-  start-out : whole 2 4096 l ≡ true → rectInReach r ≡ false → IsGrown r l (emptyUnder (number outOfReach))
-  start-bad : whole 2 4096 l ≡ true → rectInReach r ≡ true → isValid r ≡ false → IsGrown r l (emptyUnder (number notValid))
+  start-bad : whole 2 4096 l ≡ true → (ofRect r ≡ 0 → ⊥) → IsGrown r l (emptyUnder (ofRect r))
   point-is-bad : whole 2 4096 l ≡ true → Valid r → (p : LatLng) → Mem p (pointsOf l) → isLatLng p ≡ false → IsGrown r l (under (number badPoint) r)
   all-good : Accepted r l → IsGrown r l (rectAnswer (grownAll (asRead r) (pointsOf l)))
 
 pub is-add : (r : Rect) (l : List Float) → Doubles r → All DoublePoint (pointsOf l) → IsGrown r l (grow r l)
-is-add r l d e = go (whole 2 4096 l) (rectInReach r) (isValid r) refl refl refl (points-decided (pointsOf l))
+is-add r l d e = go (whole 2 4096 l) refl (rect-decided r d) (points-decided (pointsOf l))
   where
-    go : (t a b : Bool) → whole 2 4096 l ≡ t → rectInReach r ≡ a → isValid r ≡ b → (firstBad (pointsOf l) ≡ 0) ⊎ ((p : LatLng) × Mem p (pointsOf l) × (isLatLng p ≡ false)) → IsGrown r l (grow r l)
-    go true true true w k v (inl p) =
-        let a : Accepted r l = record { whole = w; start = valid-of r d k v; points = points-accepted (pointsOf l) e .0 p } in
+    go : (t : Bool) → whole 2 4096 l ≡ t → Valid r ⊎ (ofRect r ≡ 0 → ⊥) → (firstBad (pointsOf l) ≡ 0) ⊎ ((p : LatLng) × Mem p (pointsOf l) × (isLatLng p ≡ false))
+        → IsGrown r l (grow r l)
+    go true w (inl v) (inl p) =
+        let a : Accepted r l = record { whole = w; start = v; points = points-accepted (pointsOf l) e .0 p } in
         subst (IsGrown r l) (sym (accepted-is r l a)) (all-good a)
-    go true true true w k v (inr p) = let u = valid-of r d k v in subst (IsGrown r l) (sym (bad-point r l w u (p .0) (p .1) (p .2))) (point-is-bad w u (p .0) (p .1) (p .2))
-    go true true false w k v p = subst (IsGrown r l) (sym (start-not-valid r l w k v)) (start-bad w k v)
-    go true false b w k v p = subst (IsGrown r l) (sym (start-out-of-reach r l w k)) (start-out w k)
-    go false a b w k v p = subst (IsGrown r l) (sym (list-refused r l w)) (bad-list w)
+    go true w (inl v) (inr p) = subst (IsGrown r l) (sym (bad-point r l w v (p .0) (p .1) (p .2))) (point-is-bad w v (p .0) (p .1) (p .2))
+    go true w (inr h) p = subst (IsGrown r l) (sym (start-refused r l w h)) (start-bad w h)
+    go false w v p = subst (IsGrown r l) (sym (list-refused r l w)) (bad-list w)
 
--- ---- so each number is given exactly when document 01 says
--- why the number n is given, each reason where none before it holds
+-- ---- so each number is given exactly when documents 01 and 02 say
+-- why the number n is given, each reason where none before it holds: 0, 3 and 5 for their own, any other for the start's
 abbrev pub Why : Rect → List Float → ℕ → Type 0
-Why r l zero = Accepted r l
-Why r l (suc zero) = (whole 2 4096 l ≡ true) × (rectInReach r ≡ false)
-Why r l (suc (suc zero)) = (whole 2 4096 l ≡ true) × (rectInReach r ≡ true) × (isValid r ≡ false)
-Why r l (suc (suc (suc zero))) = (whole 2 4096 l ≡ true) × Valid r × ((p : LatLng) × Mem p (pointsOf l) × (isLatLng p ≡ false))
-Why r l (suc (suc (suc (suc zero)))) = ⊥
-Why r l (suc (suc (suc (suc (suc zero))))) = whole 2 4096 l ≡ false
-Why r l (suc (suc (suc (suc (suc (suc n)))))) = ⊥
+Why r l n =
+    either (eqb n 0) (Accepted r l)
+    (either (eqb n 3) ((whole 2 4096 l ≡ true) × Valid r × ((p : LatLng) × Mem p (pointsOf l) × (isLatLng p ≡ false)))
+    (either (eqb n 5) (whole 2 4096 l ≡ false) ((whole 2 4096 l ≡ true) × (ofRect r ≡ n))))
 
-why : (r : Rect) (l : List Float) (a : Answer) → IsGrown r l a → Why r l (a .refusal)
-why r l _ (bad-list w) = w
-why r l _ (start-out w k) = (w, k)
-why r l _ (start-bad w k v) = (w, k, v)
-why r l _ (point-is-bad w v p m b) = (w, v, (p, m, b))
-why r l _ (all-good a) = a
+module _ (r : Rect) (l : List Float) where
+  -- a start's number is neither 0 nor 3 nor 5
+  why-start : (n : ℕ) → ofRect r ≡ n → (n ≡ 0 → ⊥) → whole 2 4096 l ≡ true → Why r l n
+  why-start n e h w =
+      simp (ne-eqb n 0 h, ne-eqb n 3 (λ z. never r 3 (unfold ofEntry in refl) (e ∙ z)), ne-eqb n 5 (λ z. never r 5 (unfold ofEntry in refl) (e ∙ z))) (w, e)
 
-then : (r : Rect) (l : List Float) (n : ℕ) → Why r l n → grow r l .refusal ≡ n
-then r l zero a = ap (λ (x : Answer). x .refusal) (accepted-is r l a)
-then r l (suc zero) h = ap (λ (x : Answer). x .refusal) (start-out-of-reach r l (h .0) (h .1))
-then r l (suc (suc zero)) h = ap (λ (x : Answer). x .refusal) (start-not-valid r l (h .0) (h .1) (h .2))
-then r l (suc (suc (suc zero))) h = ap (λ (x : Answer). x .refusal) (bad-point r l (h .0) (h .1) (h .2 .0) (h .2 .1) (h .2 .2))
-then r l (suc (suc (suc (suc zero)))) h = absurd h
-then r l (suc (suc (suc (suc (suc zero))))) w = ap (λ (x : Answer). x .refusal) (list-refused r l w)
-then r l (suc (suc (suc (suc (suc (suc n)))))) h = absurd h
+  why : (a : Answer) → IsGrown r l a → Why r l (a .refusal)
+  why _ (bad-list w) = w
+  why _ (start-bad w h) = why-start (ofRect r) refl h w
+  why _ (point-is-bad w v p m b) = (w, v, (p, m, b))
+  why _ (all-good a) = a
+
+  then : (n : ℕ) → Why r l n → grow r l .refusal ≡ n
+  then n = go (eqb n 0) (eqb n 3) (eqb n 5) refl refl refl
+    where
+      number-of : {a : Answer} → grow r l ≡ a → grow r l .refusal ≡ a .refusal
+      number-of e = ap (λ (x : Answer). x .refusal) e
+
+      go : (s t u : Bool) → eqb n 0 ≡ s → eqb n 3 ≡ t → eqb n 5 ≡ u
+          → either s (Accepted r l)
+          (either t ((whole 2 4096 l ≡ true) × Valid r × ((p : LatLng) × Mem p (pointsOf l) × (isLatLng p ≡ false))) (either u (whole 2 4096 l ≡ false) ((whole 2 4096 l ≡ true) × (ofRect r ≡ n))))
+          → grow r l .refusal ≡ n
+      go true t u e f g a = number-of (accepted-is r l a) ∙ sym (eqb-true n 0 e)
+      go false true u e f g h = number-of (bad-point r l (h .0) (h .1) (h .2 .0) (h .2 .1) (h .2 .2)) ∙ sym (eqb-true n 3 f)
+      go false false true e f g w = number-of (list-refused r l w) ∙ sym (eqb-true n 5 g)
+      go false false false e f g h = number-of (start-refused r l (h .0) (λ z. eqb-false n 0 e (sym (h .1) ∙ z))) ∙ h .1
 
 pub given-exactly : (r : Rect) (l : List Float) → Doubles r → All DoublePoint (pointsOf l) → (n : ℕ) → (grow r l .refusal ≡ n) ↔ Why r l n
 given-exactly r l d e n = ((λ h. subst (Why r l) h (why r l (grow r l) (is-add r l d e))), then r l n)

@@ -1,21 +1,24 @@
 -- What document 01 promises of growth by a list, in its order and words, each as one theorem with all that it asks in its own signature. Each is
 -- a law of proofs/Laws.antt. The numbers handed in are doubles, as all numbers are that a program hands in (`Doubles`, `DoublePoint`). Assumes nothing.
 use mathlib.Core.Path.{_≡_}
-use mathlib.Core.Bool.{true, false}
+use mathlib.Core.Bool.{Bool, true, false}
 use mathlib.Core.List.{List, [], _∷_}
 use mathlib.Core.Logic.{_⊎_, _↔_}
-use Prim.Native.Nat.{_*_, _%_, _<_}
+use Prim.Native.Nat.{ℕ, _*_, _%_, _<_}
 use lib.ListN.{length}
 use lib.Ieee.{Float}
-use Rattle.consts.specs.Refusal.{number, accepted, outOfReach, notValid, badPoint, badList}
+use Rattle.consts.specs.Refusal.{number, accepted, badPoint, badList}
 use Rattle.s2.specs.declared.latlng.LatLng.{LatLng}
 use Rattle.s2.specs.declared.rect.Rect.{Rect}
-use Rattle.s2.specs.Zone.{at, isValid, isLatLng}
-use Rattle.s2.specs.Reading.{rectInReach, NoMinusRect}
+use Rattle.s2.specs.Zone.{at, isLatLng}
+use Rattle.s2.specs.Reading.{NoMinusRect}
+use Rattle.s2.specs.Refusals.{RectReason, of-reach, of-latitudes, of-circle, of-parts}
+use Rattle.s2.proofs.Refusals.{number-when}
 use Rattle.s2.specs.Answers.{emptyUnder, add}
 use Rattle.s2.specs.Places.{Valid, ValidPoint}
 use Rattle.entries.specs.Lists.{Mem, All, whole}
 use Rattle.lists.specs.Points.{pointsOf}
+use Rattle.lists.specs.Refused.{ofRect}
 use Rattle.lists.proofs.Promises.{point-list-refused}
 use Rattle.lists.proofs.Doubles.{Doubles, DoublePoint}
 use Rattle.growth.specs.Growth.{under, grow, oneByOne}
@@ -27,21 +30,30 @@ pub no-negative-zero : (r : Rect) (l : List Float) → Doubles r → All DoubleP
 no-negative-zero r l d e h = laws.growth-plain r l d e h
 
 -- ---- the numbers, "given exactly when", and their results
--- 1, "a rectangle has a number out of reach": the standard empty. The list is looked at first (5)
-pub out-of-reach : (r : Rect) (l : List Float) → Doubles r → All DoublePoint (pointsOf l) → (grow r l .refusal ≡ number outOfReach) ↔ ((whole 2 4096 l ≡ true) × (rectInReach r ≡ false))
-out-of-reach r l d e = laws.given-exactly r l d e 1
+-- 1, 21, 22, 23 of the start, each for its own reason: the standard empty. The list is looked at first (5)
+pub start-refused : (r : Rect) (l : List Float) → Doubles r → All DoublePoint (pointsOf l) → {n : ℕ} {f : Rect → Bool} → RectReason n f
+    → (grow r l .refusal ≡ n) ↔ ((whole 2 4096 l ≡ true) × (f r ≡ true))
+start-refused r l d e {n} {f} w = ((λ h. there (reason w (laws.given-exactly r l d e n .0 h))), (λ h. laws.given-exactly r l d e n .1 (back w (h .0, number-when w r .1 (h .1)))))
+  where
+    reason : {n : ℕ} {f : Rect → Bool} → RectReason n f → laws.Why r l n → (whole 2 4096 l ≡ true) × (ofRect r ≡ n)
+    reason of-reach h = h
+    reason of-latitudes h = h
+    reason of-circle h = h
+    reason of-parts h = h
 
-pub out-of-reach-result : (r : Rect) (l : List Float) → whole 2 4096 l ≡ true → rectInReach r ≡ false → grow r l ≡ emptyUnder (number outOfReach)
-out-of-reach-result r l w h = laws.start-out-of-reach r l w h
+    back : {n : ℕ} {f : Rect → Bool} → RectReason n f → (whole 2 4096 l ≡ true) × (ofRect r ≡ n) → laws.Why r l n
+    back of-reach h = h
+    back of-latitudes h = h
+    back of-circle h = h
+    back of-parts h = h
 
--- 2, "numbers in reach, but not valid": the same
-pub not-valid : (r : Rect) (l : List Float) → Doubles r → All DoublePoint (pointsOf l) → (grow r l .refusal ≡ number notValid) ↔ ((whole 2 4096 l ≡ true) × (rectInReach r ≡ true) × (isValid r ≡ false))
-not-valid r l d e = laws.given-exactly r l d e 2
+    there : (whole 2 4096 l ≡ true) × (ofRect r ≡ n) → (whole 2 4096 l ≡ true) × (f r ≡ true)
+    there h = (h .0, number-when w r .0 (h .1))
 
-pub not-valid-result : (r : Rect) (l : List Float) → whole 2 4096 l ≡ true → rectInReach r ≡ true → isValid r ≡ false → grow r l ≡ emptyUnder (number notValid)
-not-valid-result r l w k h = laws.start-not-valid r l w k h
+pub start-refused-result : (r : Rect) (l : List Float) → whole 2 4096 l ≡ true → (ofRect r ≡ number accepted → ⊥) → grow r l ≡ emptyUnder (ofRect r)
+start-refused-result r l w h = laws.start-refused r l w h
 
--- 3, "a point is no valid latlng": "the rectangle handed in", every bit of it. One bad point refuses the whole list, after 1 and 2 on the start
+-- 3, "a point is no valid latlng": "the rectangle handed in", every bit of it. One bad point refuses the whole list, after the start's own numbers
 pub bad-point : (r : Rect) (l : List Float) → Doubles r → All DoublePoint (pointsOf l) → (grow r l .refusal ≡ number badPoint) ↔ ((whole 2 4096 l ≡ true) × Valid r × ((p : LatLng) × Mem p (pointsOf l) × (isLatLng p ≡ false)))
 bad-point r l d e = laws.given-exactly r l d e 3
 

@@ -85,7 +85,7 @@ fn grow_points(handed: Rect, start: Rect, points: &[f64]) -> Answer
 
 // The rectangle grown by all the points of the list, of which there are at most 4,096.
 // Laws: Laws.one-by-one, Laws.one-by-one-accepted, Laws.accepted-exactly, Laws.growth-holds,
-// Laws.list-refused, Laws.start-out-of-reach, Laws.start-not-valid, Laws.bad-point.
+// Laws.list-refused, Laws.start-refused, Laws.bad-point.
 // Ruled out: of [0, 1] by [0, 1] and the points 0.5, 2 and 1, -0.5: [0, 1] by [0, 2], grown by the
 // first alone; of the same start and the points 0.5, 2 and 1, 4: [0, 1] by [0, 2] under 3 (the
 // start comes back).

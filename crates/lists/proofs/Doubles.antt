@@ -1,13 +1,14 @@
 -- The numbers that a program hands in are doubles. A rectangle or a point of doubles is accepted exactly when it is valid, and so are all entries of a list. By the
 -- definition's own cases. Assumes nothing.
-use mathlib.Core.Path.{_≡_, refl, ap}
+use mathlib.Core.Path.{_≡_, refl, sym, ap, _∙_}
 use mathlib.Core.Bool.{Bool, true, false, cond}
 use mathlib.Core.List.{List, [], _∷_}
 use mathlib.Core.Logic.{_⊎_, inl, inr, _↔_}
 use Prim.Native.Nat.{ℕ, suc}
 use native.Mathlib.Omega.{arith}
+use borrow.Author.Tests.{eqb-true, eqb-false}
 use lib.ListN.{getD}
-use lib.Dec.{T}
+use lib.Dec.{T, eqb}
 use lib.Ieee.{Float, nan, binary64, fits}
 use Rattle.order.proofs.Ranks.{and-l, and-r}
 use Rattle.consts.specs.Refusal.{number, accepted, badPoint, firstRefusal}
@@ -18,9 +19,9 @@ use Rattle.s2.specs.declared.rect.Rect.{Rect}
 use Rattle.s2.specs.declared.reading.One.{One}
 use Rattle.s2.specs.declared.reading.Pair.{Pair}
 use Rattle.s2.specs.Zone.{isValid, validLatitudes, isLatLng}
-use Rattle.s2.specs.Reading.{rectInReach, readOne, readPoint}
+use Rattle.s2.specs.Reading.{rectInReach, readPoint}
 use Rattle.s2.specs.Places.{Valid, ValidPoint}
-use Rattle.s2.proofs.Readings.{one-in, point-in}
+use Rattle.s2.proofs.Readings.{one-in, one-out, one-not-valid, point-in}
 use Rattle.entries.specs.Lists.{Mem, first, later, All}
 use Rattle.lists.specs.Rects.{rectsOf}
 use Rattle.lists.specs.Points.{pointsOf}
@@ -49,13 +50,20 @@ valid-of r d k h =
     }
 
 pub accepted-valid : (r : Rect) → Doubles r → ofRect r ≡ 0 → Valid r
-unfolding readOne
-accepted-valid r d h = go (rectInReach r) (isValid r) refl refl h
+accepted-valid r d h = go (rectInReach r) (isValid r) refl refl
   where
-    go : (s t : Bool) → rectInReach r ≡ s → isValid r ≡ t → _≡_ {A = ℕ} (cond s (cond t 0 2) 1) 0 → Valid r
-    go true true a b e = valid-of r d a b
-    go true false a b e = absurd (omega (arith, e))
-    go false t a b e = absurd (omega (arith, e))
+    go : (s t : Bool) → rectInReach r ≡ s → isValid r ≡ t → Valid r
+    go true true a b = valid-of r d a b
+    go true false a b = absurd (one-not-valid r a b .1 h)
+    go false t a b = absurd (omega (arith, sym (one-out r a) ∙ h))
+
+-- so a rectangle is valid, or it is refused
+pub rect-decided : (r : Rect) → Doubles r → Valid r ⊎ (ofRect r ≡ 0 → ⊥)
+rect-decided r d = go (eqb (ofRect r) 0) refl
+  where
+    go : (t : Bool) → eqb (ofRect r) 0 ≡ t → Valid r ⊎ (ofRect r ≡ 0 → ⊥)
+    go true e = inl (accepted-valid r d (eqb-true (ofRect r) 0 e))
+    go false e = inr (eqb-false (ofRect r) 0 e)
 
 -- ---- a point: both are
 pub record DoublePoint (p : LatLng) : Type 0 where

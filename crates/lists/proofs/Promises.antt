@@ -1,22 +1,25 @@
 -- What documents 01 and 02 promise of lists, in their order and words, each as one theorem with all that it asks in its own signature. Each is a law of the modules
 -- beside this one. Assumes nothing.
 use mathlib.Core.Path.{_≡_, refl, ap}
-use mathlib.Core.Bool.{Bool, true, false, cond}
+use mathlib.Core.Bool.{Bool, true, false, _||_, cond}
 use mathlib.Core.List.{List, [], _∷_, _++_}
 use mathlib.Core.Logic.{_⊎_, _↔_}
 use Prim.Native.Nat.{ℕ, _+_, _*_, _%_, _≤_, _<_}
 use native.Mathlib.Omega.{arith}
+use lib.Dec.{eqb}
 use lib.ListN.{length, take, drop, getD}
 use lib.Ieee.{Float, nan}
-use Rattle.consts.specs.Refusal.{number, accepted, outOfReach, notValid, badPoint}
+use Rattle.consts.specs.Refusal.{number, accepted, badPoint, ofEntry}
 use Rattle.r1.specs.Line as line
 use Rattle.s1.specs.Circle as circle
 use Rattle.s2.specs.declared.latlng.LatLng.{LatLng}
 use Rattle.s2.specs.declared.rect.Rect.{Rect}
-use Rattle.s2.specs.Zone.{at, box, isValid, isLatLng}
-use Rattle.s2.specs.Reading.{rectInReach, readOne, readPoint}
+use Rattle.s2.specs.Zone.{at, box, isLatLng}
+use Rattle.s2.specs.Reading.{readPoint}
+use Rattle.s2.specs.Refusals.{RectReason}
 use Rattle.s2.specs.Places.{Valid, ValidPoint}
-use Rattle.s2.proofs.Readings.{one-out, one-not-valid, point-bad}
+use Rattle.s2.proofs.Readings.{point-bad}
+use Rattle.s2.proofs.Refusals.{number-when, own-number}
 use Rattle.entries.specs.declared.records.First.{First}
 use Rattle.entries.specs.Lists.{All, whole}
 use Rattle.lists.specs.Rects.{rectsOf, numbersOf, putRect, asReadAll}
@@ -65,19 +68,12 @@ pub put-nothing : (i : ℕ) (r : Rect) (l : List Float) → length l < i + 4 →
 put-nothing i r l h = rects.no-room i r l h
 
 -- ---- the numbers, "given exactly when"
--- 1, "a rectangle has a number out of reach", and 2, "numbers in reach, but not valid": so 1 comes before 2
-numbers : (s t : Bool) → (_≡_ {A = ℕ} (cond s (cond t 0 2) 1) 1 → s ≡ false) × (_≡_ {A = ℕ} (cond s (cond t 0 2) 1) 2 → (s ≡ true) × (t ≡ false))
-numbers true true = ((λ e. absurd (omega (arith, e))), (λ e. absurd (omega (arith, e))))
-numbers true false = ((λ e. absurd (omega (arith, e))), (λ e. (refl, refl)))
-numbers false t = ((λ e. refl), (λ e. absurd (omega (arith, e))))
+-- 1, 21, 22 and 23 of an entry, each for the rectangle's own reason, and no other number but 0
+pub entry-refused : {n : ℕ} {f : Rect → Bool} → RectReason n f → (r : Rect) → (ofRect r ≡ n) ↔ (f r ≡ true)
+entry-refused w r = number-when w r
 
-pub out-of-reach : (r : Rect) → (ofRect r ≡ number outOfReach) ↔ (rectInReach r ≡ false)
-unfolding readOne
-out-of-reach r = (numbers (rectInReach r) (isValid r) .0, one-out r)
-
-pub not-valid : (r : Rect) → (ofRect r ≡ number notValid) ↔ ((rectInReach r ≡ true) × (isValid r ≡ false))
-unfolding readOne
-not-valid r = (numbers (rectInReach r) (isValid r) .1, λ h. one-not-valid r (h .0) (h .1))
+pub entry-numbers : (r : Rect) → eqb (ofRect r) 0 || ofEntry (ofRect r) ≡ true
+entry-numbers r = own-number r
 
 -- 3, "a point is no valid latlng"
 pub no-latlng : (p : LatLng) → (ofPoint p ≡ number badPoint) ↔ (isLatLng p ≡ false)

@@ -13,7 +13,7 @@ ofRect r = readOne r .refusal
 abbrev pub ofPoint : LatLng → ℕ
 ofPoint p = readPoint p .refusal
 
--- the first of a list: rectangles, 1 before 2 in each; points
+-- the first of a list: rectangles, each by the first of its own numbers; points
 abbrev pub firstRefused : List Rect → ℕ
 firstRefused = firstNumber ofRect
 

@@ -96,24 +96,26 @@ pub fn put_rect(out: &mut [f64], i: usize, r: Rect)
     out[i + 3] = r.lng.hi;
 }
 
-// The first rectangle of the list that is refused: its number, and which entry it is.
+// The first rectangle of the list that is refused: its number, and which entry it is. `left` are those that
+// are still to be read.
 // Laws: Promises.first-refusal, Promises.one-first, Promises.none-beside-none.
 // Ruled out: of a good rectangle and one that is not valid: the entry 0; of good ones alone: the
-// entry 1 (it is 0).
+// entry 1 (it is 0); of one with the latitudes over their range and one that is half empty: 23, the
+// last one's.
 pub fn first_refused(list: &[f64]) -> First
     ensures { λ x. ⌜ x ≡ firstOf ofRect (rectsOf (now (list .entry))) ⌝ }
 {
     let n = list.len() / 4;
-    let mut k = 0;
-    while k < n {
-        let x = read_rect(list, 4 * k);
+    let mut left = n;
+    while left > 0 {
+        let x = read_rect(list, 4 * (n - left));
+        left -= 1;
         if x.refusal != ACCEPTED {
             return First {
                 refusal: x.refusal,
-                entry: k,
+                entry: n - left - 1,
             };
         }
-        k += 1;
     }
     First {
         refusal: ACCEPTED,

@@ -43,7 +43,7 @@ unfoldable pub rectOf : List ℕ → Rect
 rectOf s = box (line.ends (doubleAt s 2) (doubleAt s 10)) (circle.ends (doubleAt s 18) (doubleAt s 26))
 
 -- ---- document 01's number and values for the record at the start of s
--- 7 where it is short or has a wrong mark; else 1, 2 or 0, as every operation reads its rectangle
+-- 7 where it is short or has a wrong mark; else 1, 21, 22, 23 or 0, as every operation reads its rectangle
 unfoldable pub numberOf : List ℕ → ℕ
 numberOf s = cond (wholeRecord s) (readOne (rectOf s) .refusal) (number badRecord)
 

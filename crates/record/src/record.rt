@@ -25,7 +25,7 @@ pub enum Record {
 
 // Document 01's number for a record.
 // Laws: Records.whole-number, Records.short-refused, Records.mark-refused.
-// Ruled out: of a rectangle: 7; of a refusal by 2: 0.
+// Ruled out: of a rectangle: 7; of a refusal by 22: 0.
 pub fn number_of(x: Record) -> u8
     ensures { λ n. ⌜ n ≡ recordNumber x ⌝ }
 {
@@ -102,8 +102,8 @@ fn rect_of(s: &[u8]) -> Rect
     Rect { lat, lng }
 }
 
-// A rectangle as every operation on one reads it: 1 where a number is out of reach, 2 where it is not
-// valid; else itself, with negative zero read as zero.
+// A rectangle as every operation on one reads it: 1 where a number is out of reach, 21, 22 or 23 where it
+// is not valid; else itself, with negative zero read as zero.
 fn judge(r: Rect) -> Record
     ensures { λ x. ⌜ recordNumber x ≡ readOne r .refusal ⌝ }
     ensures { λ x. ⌜ recordValues x ≡ given (readOne r .refusal) (asRead r ∷ []) [] ⌝ }

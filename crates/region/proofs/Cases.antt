@@ -12,18 +12,25 @@ use Rattle.consts.specs.Refusal.{number, accepted, badList, noRoom, firstRefusa
 use Rattle.r1.specs.declared.interval.Interval.{Interval as Line}
 use Rattle.s1.specs.declared.interval.Interval.{Interval}
 use Rattle.lists.specs.Rects.{rectsOf}
+use Rattle.entries.specs.declared.records.First.{First}
 use Rattle.entries.specs.Lists.{whole}
-use Rattle.lists.specs.Refused.{firstRefused}
+use Rattle.entries.specs.First.{firstOf}
+use Rattle.entries.proofs.First.{none-told, none-when}
+use Rattle.lists.specs.Refused.{ofRect, firstRefused}
 use Rattle.entries.proofs.Lengths as lengths
 use Rattle.lists.proofs.Doubles.{all-valid}
 use Rattle.region.specs.declared.region.Pieces.{Pieces}
 use Rattle.region.specs.Region.{across}
-use Rattle.region.specs.Answers.{piecesOf, refusalOf, answer, left, Promised}
+use Rattle.region.specs.Answers.{piecesOf, refusalOf, entryOf, answer, left, Promised}
 use Rattle.region.specs.Inside.{IsWritten}
 use Rattle.region.proofs.Listed.{listed-is}
 
-abbrev pub pieces : ℕ → ℕ → Pieces
-pieces n k = record { refusal = n; count = k }
+-- so many pieces under 0; none under the number n at the entry k
+abbrev pub pieces : ℕ → Pieces
+pieces m = record { refusal = 0; count = m; entry = 0 }
+
+abbrev pub none : ℕ → ℕ → Pieces
+none n k = record { refusal = n; count = 0; entry = k }
 
 -- ---- whole rectangles, at most 512
 module _ (l : List Float) where
@@ -56,13 +63,27 @@ module _ (l : List Float) (room : ℕ) where
       unfolding refusalOf firstRefusal
       room-enough n e h = simp (w, a, e, le-leb _ _ h)
 
+-- ---- the entry
+module _ (l : List Float) where
+  pub no-list : whole 4 512 l ≡ false → entryOf l ≡ 0
+  unfolding entryOf
+  no-list w = simp w
+
+  module _ (w : whole 4 512 l ≡ true) where
+    pub entry-of : {x : First} → firstOf ofRect (rectsOf l) ≡ x → entryOf l ≡ x .entry
+    unfolding entryOf
+    entry-of e = simp w (ap (λ (f : First). f .entry) e)
+
+    pub none-of : firstRefused (rectsOf l) ≡ 0 → entryOf l ≡ 0
+    none-of a = entry-of (none-told ofRect (rectsOf l) (none-when ofRect (rectsOf l) .0 a))
+
 -- ---- the promise
 module _ (l out : List Float) where
-  pub refused : (n : ℕ) → refusalOf l (length out) ≡ n → (n ≡ 0 → ⊥) → Promised l out (pieces n 0) out
+  pub refused : (n k : ℕ) → refusalOf l (length out) ≡ n → (n ≡ 0 → ⊥) → entryOf l ≡ k → Promised l out (none n k) out
   unfolding answer left
-  refused n e h =
+  refused n k e h i =
       let z = ne-eqb n 0 h in
-      record { answers = simp (e, z); leaves = simp (e, z); lists = λ t. absurd (h t) }
+      record { answers = simp (e, z, i); leaves = simp (e, z); lists = λ t. absurd (h t) }
 
   -- where the pieces that are due were written, or did not fit
   pub listed : ((i : ℕ) → T (fits binary64 (getD l i nan))) → whole 4 512 l ≡ true → firstRefused (rectsOf l) ≡ 0 → (r : Pieces) (last : List Float) → IsWritten (piecesOf l) out r last
@@ -74,11 +95,11 @@ module _ (l out : List Float) where
       go true h =
           let k = leb-true (4 * length (piecesOf l)) (length out) h in
           let z : refusalOf l (length out) ≡ 0 = room-enough l (length out) w a (length (piecesOf l)) refl k in
-          record { answers = p .fit k .0 ∙ simp z; leaves = p .fit k .1 ∙ simp z; lists = λ t. unfold piecesOf in (listed-is (rectsOf l) (all-valid l d a)) }
+          record { answers = p .fit k .0 ∙ simp (z, none-of l w a); leaves = p .fit k .1 ∙ simp z; lists = λ t. unfold piecesOf in (listed-is (rectsOf l) (all-valid l d a)) }
       go false h =
           let k = leb-false (4 * length (piecesOf l)) (length out) h in
           let z : refusalOf l (length out) ≡ 6 = no-room l (length out) w a (length (piecesOf l)) refl k in
-          record { answers = p .none k .0 ∙ simp z; leaves = p .none k .1 ∙ simp z; lists = λ t. absurd (six (sym (ap (λ (x : Pieces). x .refusal) (p .none k .0)) ∙ t)) }
+          record { answers = p .none k .0 ∙ simp (z, none-of l w a); leaves = p .none k .1 ∙ simp z; lists = λ t. absurd (six (sym (ap (λ (x : Pieces). x .refusal) (p .none k .0)) ∙ t)) }
         where
           six : _≡_ {A = ℕ} 6 0 → ⊥
           six e = omega (arith, e)

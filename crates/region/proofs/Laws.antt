@@ -37,7 +37,7 @@ use Rattle.region.specs.Region.{band, lngs, across, region}
 use Rattle.region.specs.Answers.{piecesOf, refusalOf, answer, left, Promised}
 use Rattle.region.proofs.Listed.{same-region, listed-is, arcs-read}
 use Rattle.region.proofs.Unique.{some-of, unique}
-use Rattle.region.proofs.Cases.{length-across, room-enough}
+use Rattle.region.proofs.Cases.{length-across, room-enough, none-of}
 
 -- ---- the list found is the common region, and nothing else is
 pub listed-exactly : (rs listed : List Rect) → All Valid rs → CommonRegion rs listed ↔ (listed ≡ region (asReadAll rs))
@@ -141,7 +141,7 @@ module _ (l m : List Float) (p : whole 4 512 l ≡ true) (q : whole 4 512 m ≡ 
 
   pub same-answer : (room : ℕ) → answer l room ≡ answer m room
   unfolding answer
-  same-answer room = rw (same-refusal room, same-pieces) refl
+  same-answer room = rw (same-refusal room, same-pieces, none-of l p (none-refused (rectsOf l) v), none-of m q (none-refused (rectsOf m) w)) refl
 
   pub same-left : (out : List Float) → left l out ≡ left m out
   unfolding left

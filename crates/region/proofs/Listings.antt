@@ -22,7 +22,7 @@ use Rattle.lists.specs.Rects.{rectsOf, numbersOf, asReadAll}
 use Rattle.region.specs.declared.region.Pieces.{Pieces}
 use Rattle.arcs.specs.Clipping.{steps, common}
 use Rattle.region.specs.Region.{bandFrom, lngs, across, region}
-use Rattle.region.specs.Answers.{piecesOf, refusalOf, answer, left, Promised}
+use Rattle.region.specs.Answers.{piecesOf, refusalOf, entryOf, answer, left, Promised}
 use Rattle.region.proofs.Laws.{at-most, accepts}
 
 length-rects : (l : List Float) → 4 * length (rectsOf l) ≤ length l
@@ -51,6 +51,10 @@ module _ {l out : List Float} {r : Pieces} {out' : List Float} (p : Promised l o
   pub refusal-is : r .refusal ≡ refusalOf l (length out)
   unfolding answer
   refusal-is = ap (λ (z : Pieces). z .refusal) (p .answers)
+
+  pub entry-is : r .entry ≡ entryOf l
+  unfolding answer
+  entry-is = ap (λ (z : Pieces). z .entry) (p .answers)
 
   count-is : r .count ≡ given (refusalOf l (length out)) (length (piecesOf l)) 0
   unfolding answer

@@ -1,7 +1,7 @@
 -- What document 01 promises of the common region, each promise one theorem about what a caller of `common_region` sees: from its contract, `Promised`, for
 -- the list l and the output out that are lent, the answer r and the output left, out'. Assumes nothing.
 use mathlib.Core.Path.{_≡_, refl, sym, ap, _∙_, subst}
-use mathlib.Core.Bool.{Bool, true, false}
+use mathlib.Core.Bool.{Bool, true, false, false≢true}
 use mathlib.Core.List.{List, [], _∷_}
 use mathlib.Core.Logic.{_⊎_, inl, inr, _↔_}
 use Prim.Native.Nat.{ℕ, _*_, _%_, _≤_, _<_}
@@ -10,24 +10,26 @@ use borrow.Author.Tests.{eqb-true, eqb-false}
 use lib.ListN.{length, take, drop}
 use lib.Dec.{eqb}
 use lib.Ieee.{Float}
-use Rattle.consts.specs.Refusal.{Reason, number, accepted, outOfReach, notValid, badList, noRoom}
+use Rattle.consts.specs.Refusal.{ofEntry}
 use Rattle.consts.specs.Reading.{plain}
 use Rattle.s2.specs.declared.place.Place.{Place}
 use Rattle.s2.specs.declared.rect.Rect.{Rect}
 use Rattle.s2.specs.Zone.{FULL}
 use Rattle.s2.specs.Reading.{asRead}
+use Rattle.s2.specs.Refusals.{RectReason}
+use Rattle.s2.proofs.Refusals.{reason-number}
 use Rattle.s2.specs.Places.{IsPlace, Valid}
 use Rattle.entries.specs.Lists.{All, Mem}
 use Rattle.lists.specs.Rects.{rectsOf, numbersOf, asReadAll}
 use Rattle.region.specs.declared.region.Pieces.{Pieces}
 use Rattle.region.specs.CommonRegion.{inEvery, CommonRegion}
 use Rattle.region.specs.Region.{band}
-use Rattle.region.specs.Answers.{piecesOf, Promised}
+use Rattle.region.specs.Answers.{piecesOf, refusalOf, Promised}
 use Rattle.region.proofs.Cases.{good}
 use Rattle.region.proofs.Listed.{listed-is}
-use Rattle.region.proofs.Refusals.{Whole, OutOfReach, NotValid, Accepted, FirstIs, Why, exactly}
+use Rattle.region.proofs.Refusals.{Whole, AllSound, FirstIs, exactly-5, exactly-entry, exactly-6, exactly-0, at-entry, no-entry as none-told}
 use Rattle.region.proofs.Laws as laws
-use Rattle.region.proofs.Listings.{refusal-is, counted, front, behind, no-pieces, one-full}
+use Rattle.region.proofs.Listings.{refusal-is, entry-is, counted, front, behind, no-pieces, one-full}
 
 -- ---- demand 3
 -- no place lies in every rectangle given
@@ -112,33 +114,39 @@ pub record Given (n : ℕ) (when : Type 0) (out : List Float) (r : Pieces) (out'
   pub output : r .refusal ≡ n → out' ≡ out
 
 module _ (l out : List Float) (r : Pieces) (out' : List Float) (p : Promised l out r out') where
-  abbrev ForReason : Reason → Type 0 → Type 0
-  ForReason w when = Given (number w) when out r out'
+  -- a number that the list and the room have for a reason, the answer has for it
+  answered : {n : ℕ} {why : Type 0} → (refusalOf l (length out) ≡ n) ↔ why → (r .refusal ≡ n) ↔ why
+  answered e = (λ h. e .0 (sym (refusal-is p) ∙ h), λ h. refusal-is p ∙ e .1 h)
 
-  refused-for : (w : Reason) → (number w ≡ 0 → ⊥) → ForReason w (Why l (length out) w)
-  refused-for w z =
-      let e = exactly l (length out) w in
-      record { exactly-when = (λ h. e .0 (sym (refusal-is p) ∙ h), λ h. refusal-is p ∙ e .1 h); none = λ h. no-pieces p (λ k. z (sym h ∙ k)); output = λ h. laws.unaltered l out p (λ k. z (sym h ∙ k)) }
+  refused-for : {n : ℕ} {why : Type 0} → (n ≡ 0 → ⊥) → (refusalOf l (length out) ≡ n) ↔ why → Given n why out r out'
+  refused-for z e = record { exactly-when = answered e; none = λ h. no-pieces p (λ k. z (sym h ∙ k)); output = λ h. laws.unaltered l out p (λ k. z (sym h ∙ k)) }
 
   -- 5: the list's length is no multiple of 4, or over 2,048
   pub refused-5 : Given 5 ((length l % 4 ≡ 0 → ⊥) ⊎ (2048 < length l)) out r out'
-  refused-5 = refused-for badList (eqb-false 5 0 refl)
+  refused-5 = refused-for (eqb-false 5 0 refl) (exactly-5 l (length out))
 
-  -- 1: the list is whole, and its first entry that is refused has a number out of reach
-  pub refused-1 : Given 1 (Whole l × FirstIs OutOfReach (rectsOf l)) out r out'
-  refused-1 = refused-for outOfReach (eqb-false 1 0 refl)
+  -- 1, 21, 22, 23: the list is whole, and its first entry that is refused is so for this reason
+  pub refused-entry : {n : ℕ} {f : Rect → Bool} → RectReason n f → Given n (Whole l × ((k : ℕ) × FirstIs f (rectsOf l) k)) out r out'
+  refused-entry w = refused-for (λ z. not-entry (subst (λ (j : ℕ). ofEntry j ≡ true) z (reason-number w))) (exactly-entry l (length out) w)
+    where
+      not-entry : ofEntry 0 ≡ true → ⊥
+      not-entry h = false≢true (unfold ofEntry in h)
 
-  -- 2: the list is whole, and its first entry that is refused has its numbers in reach, but is not valid
-  pub refused-2 : Given 2 (Whole l × FirstIs NotValid (rectsOf l)) out r out'
-  refused-2 = refused-for notValid (eqb-false 2 0 refl)
+  -- "For lists, 1 and these also report the entry's number from zero": it is the first that is refused, all before it are good, and the number is its own
+  pub the-entry : {n : ℕ} {f : Rect → Bool} → RectReason n f → r .refusal ≡ n → FirstIs f (rectsOf l) (r .entry)
+  the-entry {n} {f} w h = subst (FirstIs f (rectsOf l)) (sym (entry-is p)) (at-entry l (length out) w (sym (refusal-is p) ∙ h) .1)
+
+  -- beside any other number, 0 too, it is 0
+  pub no-entry : ofEntry (r .refusal) ≡ false → r .entry ≡ 0
+  no-entry h = entry-is p ∙ none-told l (length out) (ap ofEntry (sym (refusal-is p)) ∙ h)
 
   -- 6: the list is whole and all its entries are accepted, and the output has fewer than 4 numbers a piece
-  pub refused-6 : Given 6 (Whole l × All Accepted (rectsOf l) × (length out < 4 * length (piecesOf l))) out r out'
-  refused-6 = refused-for noRoom (eqb-false 6 0 refl)
+  pub refused-6 : Given 6 (Whole l × AllSound (rectsOf l) × (length out < 4 * length (piecesOf l))) out r out'
+  refused-6 = refused-for (eqb-false 6 0 refl) (exactly-6 l (length out))
 
   -- 0: else it is accepted
-  pub accepted-0 : (r .refusal ≡ 0) ↔ (Whole l × All Accepted (rectsOf l) × (4 * length (piecesOf l) ≤ length out))
-  accepted-0 = let e = exactly l (length out) accepted in (λ h. e .0 (sym (refusal-is p) ∙ h), λ h. refusal-is p ∙ e .1 h)
+  pub accepted-0 : (r .refusal ≡ 0) ↔ (Whole l × AllSound (rectsOf l) × (4 * length (piecesOf l) ≤ length out))
+  accepted-0 = answered (exactly-0 l (length out))
 
 -- no refusal alters a lent number
 pub no-refusal-alters : (l out : List Float) (r : Pieces) (out' : List Float) → Promised l out r out' → (r .refusal ≡ 0 → ⊥) → out' ≡ out

@@ -10,8 +10,9 @@ use lib.Ieee.{Float}
 use Rattle.consts.specs.Refusal.{number, accepted, badList, noRoom, firstRefusal, given}
 use Rattle.s2.specs.declared.rect.Rect.{Rect}
 use Rattle.entries.specs.Lists.{whole}
+use Rattle.entries.specs.First.{firstEntry}
 use Rattle.lists.specs.Rects.{rectsOf, numbersOf, asReadAll}
-use Rattle.lists.specs.Refused.{firstRefused}
+use Rattle.lists.specs.Refused.{ofRect, firstRefused}
 use Rattle.region.specs.declared.region.Pieces.{Pieces}
 use Rattle.region.specs.CommonRegion.{CommonRegion}
 use Rattle.region.specs.Region.{region}
@@ -28,9 +29,13 @@ refusalOf l room =
     (firstRefusal (firstRefused (rectsOf l)) (cond (leb (4 * length (piecesOf l)) room) (number accepted) (number noRoom)))
     (number badList)
 
+-- ---- the entry that is refused, counted from zero; 0 where none is, or the list is not looked into
+unfoldable pub entryOf : List Float → ℕ
+entryOf l = cond (whole 4 512 l) (firstEntry ofRect (rectsOf l)) 0
+
 -- ---- the answer, and what is left in the output: a refusal counts no pieces and alters no number; numbers after the last piece stay
 unfoldable pub answer : List Float → ℕ → Pieces
-answer l room = record { refusal = refusalOf l room; count = given (refusalOf l room) (length (piecesOf l)) 0 }
+answer l room = record { refusal = refusalOf l room; count = given (refusalOf l room) (length (piecesOf l)) 0; entry = entryOf l }
 
 unfoldable pub left : List Float → List Float → List Float
 left l out = given (refusalOf l (length out)) (numbersOf (piecesOf l) ++ drop (4 * length (piecesOf l)) out) out

@@ -51,5 +51,5 @@ pub record Fitted (n room r : ℕ) : Type 0 where
 
 -- the pieces ps are in the output, with what was there behind them, or do not fit
 pub record IsWritten (ps : List Rect) (out : List Float) (r : Pieces) (out' : List Float) : Type 0 where
-  pub fit : 4 * length ps ≤ length out → (r ≡ record { refusal = number accepted; count = length ps }) × (out' ≡ numbersOf ps ++ drop (4 * length ps) out)
-  pub none : length out < 4 * length ps → (r ≡ record { refusal = number noRoom; count = 0 }) × (out' ≡ out)
+  pub fit : 4 * length ps ≤ length out → (r ≡ record { refusal = number accepted; count = length ps; entry = 0 }) × (out' ≡ numbersOf ps ++ drop (4 * length ps) out)
+  pub none : length out < 4 * length ps → (r ≡ record { refusal = number noRoom; count = 0; entry = 0 }) × (out' ≡ out)

@@ -5,6 +5,7 @@ use crate::finding::find;
 use consts::ACCEPTED;
 use consts::BAD_LIST;
 use consts::NO_ROOM;
+use lists::first_refused;
 use r1::interval::Interval as Line;
 ghost use mathlib.Core.Path.{_≡_};
 ghost use mathlib.Core.List.{_++_};
@@ -16,11 +17,13 @@ ghost use Rattle.region.specs.Region.{across};
 ghost use Rattle.region.specs.Answers.{Promised};
 ghost use Rattle.region.specs.Inside.{Room, Fitted, IsWritten};
 
-// How many pieces were listed; none under a refusal.
+// How many pieces were listed; none under a refusal. Where a rectangle is refused, its entry is told,
+// counted from zero; beside any other number the entry is 0 and means nothing.
 #[repr(C)]
 pub struct Pieces {
     pub refusal: u8,
     pub count: usize,
+    pub entry: usize,
 }
 
 // How many of n pieces are written into room for so many numbers: all, or none where they do not fit.
@@ -60,16 +63,19 @@ fn list_pieces(lo: &[f64], hi: &[f64], n: usize, b: Line, out: &mut [f64]) -> Pi
         return Pieces {
             refusal: NO_ROOM,
             count: 0,
+            entry: 0,
         };
     }
     Pieces {
         refusal: ACCEPTED,
         count: n,
+        entry: 0,
     }
 }
 
 // The common region of a list of whole rectangles, with room for its arcs in `west` and `east` and for the
-// pieces in `lo` and `hi`.
+// pieces in `lo` and `hi`. Which entry is refused is looked for only where one is: so a list that is taken
+// pays nothing for it.
 fn region_in(
     list: &[f64],
     west: &mut [f64],
@@ -83,9 +89,11 @@ fn region_in(
 {
     let f = find(list, west, east, lo, hi);
     if f.refusal != ACCEPTED {
+        let first = first_refused(list);
         return Pieces {
-            refusal: f.refusal,
+            refusal: first.refusal,
             count: 0,
+            entry: first.entry,
         };
     }
     list_pieces(lo, hi, f.count, f.lat, out)
@@ -121,10 +129,11 @@ fn region_sized(list: &[f64], out: &mut [f64]) -> Pieces
 
 // The common region of the rectangles in `list`, to the start of `out`.
 // Laws: Laws.listed-exactly, Laws.accepts, Laws.none-listed, Laws.at-most, Laws.unaltered,
-// Laws.determined.
+// Laws.determined; Promises.the-entry, Promises.no-entry.
 // Ruled out: of [-1, 1] and [1, -1]: one piece, [-1, 1], or none; of [2, 1] and [0.5, 0.25]: [2,
 // 0.25] first; of one empty rectangle: one empty piece; a refusal, and a number of the output
-// changed.
+// changed; of a good rectangle, then [0, 2] by {0}, then [0, 1] by [-PI, 0]: 22, or the entry 2, or the
+// entry 0 (it is 21 at 1).
 pub fn common_region(list: &[f64], out: &mut [f64]) -> Pieces
     ensures { λ r. ⌜ Promised (now (list .entry)) (now (out .entry)) r (now (out .exit)) ⌝ }
 {
@@ -133,12 +142,14 @@ pub fn common_region(list: &[f64], out: &mut [f64]) -> Pieces
         return Pieces {
             refusal: BAD_LIST,
             count: 0,
+            entry: 0,
         };
     }
     if n > 2048 {
         return Pieces {
             refusal: BAD_LIST,
             count: 0,
+            entry: 0,
         };
     }
     region_sized(list, out)

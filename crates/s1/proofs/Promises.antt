@@ -8,7 +8,7 @@ use lib.Ieee as Ieee
 use lib.Ieee.{Float, binary64, ofBits, fits, lt, le, eq}
 use Rattle.order.proofs.Bounds.{Between}
 use Rattle.consts.specs.Constants.{PI, NEG-PI, TURN, NEG-ONE, HALF}
-use Rattle.consts.specs.Refusal.{number, accepted, outOfReach, notValid, badPoint}
+use Rattle.consts.specs.Refusal.{number, accepted, outOfReach, badCircle, badPoint}
 use Rattle.consts.specs.Answer.{ZERO, numberAnswer, Decides}
 use Rattle.consts.specs.Reading.{inReach, plain, NoMinus}
 use Rattle.consts.specs.Remainder.{remainderOf}
@@ -177,7 +177,7 @@ pub add-exactly : (i : Interval) (p : Float) → Valid i → OnCircle p
 add-exactly i p v q = (places.add-valid i p v q, places.add-holds i p v q, zeros.add-ends i p v q)
 
 -- ==== Refusal numbers. For any numbers whatever, NaN too: each number is given exactly when its reason stands, and what stands beside it
--- "1: an interval has a number out of reach. 2: numbers in reach, but not valid"; beside them "empty / no / zero". An interval alone:
+-- "1: an interval has a number out of reach"; "22 (circle interval not valid)", "for intervals only 22"; beside them "empty / no / zero". An interval alone:
 pub record Alone (i : Interval) : Type 0 where
   pub numbers : Refusals (readOne i .refusal) (Fine i) (Out i) (Bad i) ⊥ ⊥
   pub of-is-valid : Says (readOne i .refusal) (isValid i)
@@ -209,7 +209,7 @@ refusals-alone i =
       of-complement-center = refusals.tells n _;
     }
 
--- "Order: operands left to right, 1 before 2 in each". Two intervals:
+-- "Order: operands left to right", 1 before 22 in each. Two intervals:
 pub record Two (i o : Interval) : Type 0 where
   pub numbers : Refusals (readTwo i o .refusal) (Fine i × Fine o) (OneOut i o) (OneBad i o) ⊥ ⊥
   pub of-contains-interval : Says (readTwo i o .refusal) (containsInterval i o)
@@ -263,12 +263,12 @@ pub refusals-approx-eq-by : (i o : Interval) (e : Float)
     × Says (approxEqBy i o e .refusal) (approxEqBy i o e)
 refusals-approx-eq-by i o e = let a = refusals.approx-says i o e in (rw (a .number-is) (refusals.of-two-and-error i o e), refusals.own-says a)
 
--- "for circle `new`, an end of size over PI": 2, where both ends are in reach; 1 where one is NaN or of size over 2^500; beside both EMPTY
+-- "for circle `new`, an end of size over PI": 22, where both ends are in reach; 1 where one is NaN or of size over 2^500; beside both EMPTY
 pub refusals-new : (lo hi : Float)
     → Refusals («new» lo hi .refusal) (EndsFine lo hi) (Out (ends lo hi)) (EndsBad lo hi) ⊥ ⊥ × Answers («new» lo hi .refusal) («new» lo hi)
 refusals-new lo hi = let a = refusals.new-answers lo hi in (rw (a .number-is) (refusals.of-ends lo hi), refusals.own-answers a)
 
--- "for line to circle, a result not valid": 2, where both ends are in reach; 1 where one is not; beside both EMPTY
+-- "for line to circle, a result not valid": 22, where both ends are in reach; 1 where one is not; beside both EMPTY
 pub refusals-from-line : (l : Line)
     → Refusals (fromLine l .refusal) (Fine (ends (l .lo) (l .hi))) (Out (ends (l .lo) (l .hi))) (Bad (ends (l .lo) (l .hi))) ⊥ ⊥ × Answers (fromLine l .refusal) (fromLine l)
 refusals-from-line l = let a = refusals.from-line-answers l in (rw (a .number-is) (refusals.of-one (ends (l .lo) (l .hi))), refusals.own-answers a)
@@ -284,11 +284,11 @@ pub refusals-positive-distance : (p q : Float)
     × Tells (positiveDistance p q .refusal) (positiveDistance p q)
 refusals-positive-distance p q = let a = refusals.distance-tells p q in (rw (a .number-is) (refusals.of-points p q), refusals.own-tells a)
 
--- growth: 1 and 2 on the interval, with EMPTY; then 3 on the point, with "the interval handed in", every bit of it
+-- growth: 1 and 22 on the interval, with EMPTY; then 3 on the point, with "the interval handed in", every bit of it
 pub record Growth (i : Interval) (p : Float) : Type 0 where
   pub numbers : Refusals (add i p .refusal) (Fine i × (onCircle p ≡ true)) (Out i) (Bad i) (Fine i × (onCircle p ≡ false)) ⊥
   pub under-1 : Out i → add i p ≡ emptyUnder (number outOfReach)
-  pub under-2 : Bad i → add i p ≡ emptyUnder (number notValid)
+  pub under-22 : Bad i → add i p ≡ emptyUnder (number badCircle)
   pub under-3 : Fine i → onCircle p ≡ false → add i p ≡ record { refusal = number badPoint; value = i }
 
 pub refusals-growth : (i : Interval) (p : Float) → Growth i p
@@ -296,7 +296,7 @@ refusals-growth i p =
     record {
       numbers = refusals.of-add i p;
       under-1 = refusals.add-empty i p .0;
-      under-2 = refusals.add-empty i p .1;
+      under-22 = refusals.add-empty i p .1;
       under-3 = λ f h. refusals.add-refused i p h f;
     }
 

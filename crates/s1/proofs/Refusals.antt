@@ -3,16 +3,17 @@
 use mathlib.Core.Path.{_≡_, refl, sym, _∙_, subst}
 use mathlib.Core.Bool.{Bool, true, false, _&&_, cond}
 use mathlib.Core.Logic.{_⊎_, inl, inr, _↔_}
-use Prim.Native.Nat.{ℕ, zero, suc}
+use Prim.Native.Nat.{ℕ}
 use native.Mathlib.Omega.{arith}
 use lib.Dec.{eqb}
 use lib.Ieee.{Float}
 use borrow.Author.Tests.{eqb-true, eqb-false, ne-eqb}
 use Rattle.consts.specs.declared.answer.YesNo.{YesNo}
 use Rattle.consts.specs.declared.answer.Number.{Number}
-use Rattle.consts.specs.Refusal.{number, outOfReach, notValid, badPoint, badMargin, firstRefusal}
+use Rattle.consts.specs.Refusal.{number, outOfReach, badCircle, badPoint, badMargin, firstRefusal}
 use Rattle.consts.specs.Answer.{yesNo, numberAnswer, noUnder, zeroUnder, test, told}
 use Rattle.consts.specs.Reading.{inReach, readNumber}
+use Rattle.consts.proofs.Refusals.{either}
 use Rattle.r1.specs.declared.interval.Interval.{Interval as Line}
 use Rattle.r1.specs.declared.interval.Answer.{Answer as LineAnswer}
 use Rattle.r1.specs.Answers.{lineAnswer, emptyUnder as lineEmptyUnder, interval as lineInterval}
@@ -26,21 +27,16 @@ use Rattle.s1.specs.Answers.{circleAnswer, emptyUnder, interval, «new»
 
 -- the reason for each number
 abbrev reason : Type 0 → Type 0 → Type 0 → Type 0 → Type 0 → ℕ → Type 0
-reason a b c d e zero = a
-reason a b c d e (suc zero) = b
-reason a b c d e (suc (suc zero)) = c
-reason a b c d e (suc (suc (suc zero))) = d
-reason a b c d e (suc (suc (suc (suc zero)))) = e
-reason a b c d e (suc (suc (suc (suc (suc n))))) = ⊥
+reason a b c d e n = either (eqb n 0) a (either (eqb n 1) b (either (eqb n 22) c (either (eqb n 3) d (either (eqb n 4) e ⊥))))
 
 -- it is so where each reason gives its number, and the reason for n stands
 refusals : {n : ℕ} (a b c d e : Type 0)
-    → (a → n ≡ 0) → (b → n ≡ 1) → (c → n ≡ 2) → (d → n ≡ 3) → (e → n ≡ 4) → reason a b c d e n → Refusals n a b c d e
+    → (a → n ≡ 0) → (b → n ≡ 1) → (c → n ≡ 22) → (d → n ≡ 3) → (e → n ≡ 4) → reason a b c d e n → Refusals n a b c d e
 refusals a b c d e p q r s t w =
     record {
       given-0 = (λ h. subst (reason a b c d e) h w, p);
       given-1 = (λ h. subst (reason a b c d e) h w, q);
-      given-2 = (λ h. subst (reason a b c d e) h w, r);
+      given-22 = (λ h. subst (reason a b c d e) h w, r);
       given-3 = (λ h. subst (reason a b c d e) h w, s);
       given-4 = (λ h. subst (reason a b c d e) h w, t);
     }
@@ -118,7 +114,7 @@ module _ {m n : ℕ} (a b c d e a' b' c' d' e' : Type 0) (f : Refusals m a b c d
       record {
         given-0 = (λ h. let x = first-zero m n .0 h in (f .given-0 .0 (x .0), g .given-0 .0 (x .1)), λ h. first-zero m n .1 (f .given-0 .1 (h .0), g .given-0 .1 (h .1)));
         given-1 = follow (later a b b' (λ z. omega arith) (f .given-0) (f .given-1) (g .given-1)) p;
-        given-2 = follow (later a c c' (λ z. omega arith) (f .given-0) (f .given-2) (g .given-2)) q;
+        given-22 = follow (later a c c' (λ z. omega arith) (f .given-0) (f .given-22) (g .given-22)) q;
         given-3 = follow (later a d d' (λ z. omega arith) (f .given-0) (f .given-3) (g .given-3)) r;
         given-4 = follow (later a e e' (λ z. omega arith) (f .given-0) (f .given-4) (g .given-4)) s;
       }
@@ -131,7 +127,7 @@ module _ (i : Interval) where
       refusals (Fine i) (Out i) (Bad i) ⊥ ⊥ (λ h. simp (h .0, h .1)) (λ h. simp h) (λ h. simp (h .0, h .1)) (λ h. absurd h) (λ h. absurd h)
       (go (inReach (i .lo) && inReach (i .hi)) refl (isValid i) refl)
     where
-      go : (t : Bool) → inReach (i .lo) && inReach (i .hi) ≡ t → (u : Bool) → isValid i ≡ u → reason (Fine i) (Out i) (Bad i) ⊥ ⊥ (cond t (cond u 0 2) 1)
+      go : (t : Bool) → inReach (i .lo) && inReach (i .hi) ≡ t → (u : Bool) → isValid i ≡ u → reason (Fine i) (Out i) (Bad i) ⊥ ⊥ (cond t (cond u 0 22) 1)
       go true h true k = (h, k)
       go true h false k = (h, k)
       go false h u k = h
@@ -162,7 +158,7 @@ module _ (lo hi : Float) where
       refusals (EndsFine lo hi) (Out (ends lo hi)) (EndsBad lo hi) ⊥ ⊥ (λ h. simp (h .0, h .1)) (λ h. simp h) (λ h. simp (h .0, h .1)) (λ h. absurd h) (λ h. absurd h)
       (go (inReach lo && inReach hi) refl (onCircle lo && onCircle hi) refl)
     where
-      go : (t : Bool) → inReach lo && inReach hi ≡ t → (u : Bool) → onCircle lo && onCircle hi ≡ u → reason (EndsFine lo hi) (Out (ends lo hi)) (EndsBad lo hi) ⊥ ⊥ (cond t (cond u 0 2) 1)
+      go : (t : Bool) → inReach lo && inReach hi ≡ t → (u : Bool) → onCircle lo && onCircle hi ≡ u → reason (EndsFine lo hi) (Out (ends lo hi)) (EndsBad lo hi) ⊥ ⊥ (cond t (cond u 0 22) 1)
       go true h true k = (h, k)
       go true h false k = (h, k)
       go false h u k = h
@@ -203,7 +199,7 @@ module _ (i : Interval) (p : Float) where
   unfolding add readOne readPoint
   add-refused h f = simp (f .0, f .1, h)
 
-  pub add-empty : (Out i → add i p ≡ emptyUnder (number outOfReach)) × (Bad i → add i p ≡ emptyUnder (number notValid))
+  pub add-empty : (Out i → add i p ≡ emptyUnder (number outOfReach)) × (Bad i → add i p ≡ emptyUnder (number badCircle))
   unfolding add readOne
   add-empty = (λ h. simp h, λ h. simp (h .0, h .1))
 

@@ -7,7 +7,7 @@ use Prim.Native.Nat.{ℕ}
 use lib.Ieee.{Float}
 use Rattle.consts.specs.declared.answer.YesNo.{YesNo}
 use Rattle.consts.specs.declared.answer.Number.{Number}
-use Rattle.consts.specs.Refusal.{number, accepted, outOfReach, notValid, badPoint, badMargin}
+use Rattle.consts.specs.Refusal.{number, accepted, outOfReach, badCircle, badPoint, badMargin}
 use Rattle.consts.specs.Answer.{noUnder, zeroUnder}
 use Rattle.consts.specs.Reading.{inReach}
 use Rattle.r1.specs.declared.interval.Answer.{Answer as LineAnswer}
@@ -48,11 +48,11 @@ abbrev pub EndsBad : Float → Float → Type 0
 EndsBad lo hi = Reach (ends lo hi) × (onCircle lo && onCircle hi ≡ false)
 
 -- ---- the numbers
--- the number n is 0 exactly when a stands, 1 exactly when b does, and so on to 4
+-- the number n is 0 exactly when a stands, 1 exactly when b does, 22 when c, 3 when d, 4 when e
 pub record Refusals (n : ℕ) (a b c d e : Type 0) : Type 0 where
   pub given-0 : (n ≡ number accepted) ↔ a
   pub given-1 : (n ≡ number outOfReach) ↔ b
-  pub given-2 : (n ≡ number notValid) ↔ c
+  pub given-22 : (n ≡ number badCircle) ↔ c
   pub given-3 : (n ≡ number badPoint) ↔ d
   pub given-4 : (n ≡ number badMargin) ↔ e
 

@@ -98,7 +98,7 @@ impl Interval {
 
     // The circle interval with the ends of a line interval, which are not normalised: refused where
     // that is not valid.
-    // [-PI, 1] is refused with 2, where new would write its western end as PI.
+    // [-PI, 1] is refused with 22, where new would write its western end as PI.
     // Laws: Seams.from-line-is.
     // Ruled out: of [0, 1]: EMPTY; of [-PI, 1]: [PI, 1], accepted.
     pub fn from_line(i: Line) -> Answer

@@ -3,10 +3,10 @@
 use crate::circle;
 use crate::interval::Interval;
 use consts::ACCEPTED;
+use consts::BAD_CIRCLE;
 use consts::BAD_MARGIN;
 use consts::BAD_POINT;
 use consts::NEG_PI;
-use consts::NOT_VALID;
 use consts::Number;
 use consts::OUT_OF_REACH;
 use consts::PI;
@@ -54,14 +54,14 @@ fn refusal_of(i: Interval) -> u8
         return ACCEPTED;
     }
     if consts::in_reach(i.lo) & consts::in_reach(i.hi) {
-        return NOT_VALID;
+        return BAD_CIRCLE;
     }
     OUT_OF_REACH
 }
 
 // Reads an interval: every operation on one comes through here.
 // Laws: Limits.one-in, Limits.holds-plain; Readings.valid-reach; Promises.refusals-alone.
-// Ruled out: of [-PI, 0]: under 0; of [0, NaN]: under 2.
+// Ruled out: of [-PI, 0]: under 0; of [0, NaN]: under 22.
 pub fn read_one(i: Interval) -> One
     ensures { λ r. ⌜ r ≡ readOne i ⌝ }
 {
@@ -87,14 +87,14 @@ fn refusal_of_ends(lo: f64, hi: f64) -> u8
         return ACCEPTED;
     }
     if consts::in_reach(lo) & consts::in_reach(hi) {
-        return NOT_VALID;
+        return BAD_CIRCLE;
     }
     OUT_OF_REACH
 }
 
 // Reads the ends of an interval that is to be made, before the seam is normalised.
 // Laws: Limits.ends-in; Promises.refusals-new.
-// Ruled out: of -PI and 0: under 2, as an interval would be; of 0 and 4: under 0.
+// Ruled out: of -PI and 0: under 22, as an interval would be; of 0 and 4: under 0.
 pub fn read_ends(lo: f64, hi: f64) -> One
     ensures { λ r. ⌜ r ≡ readEnds lo hi ⌝ }
 {
@@ -108,7 +108,7 @@ pub fn read_ends(lo: f64, hi: f64) -> One
 // Reads two intervals, the left one first.
 // Laws: Limits.two-in; Promises.refusals-two.
 // Ruled out: of [0, 1] and [2, 3]: the second on the left; of [-PI, 0] and [NaN, 0]: under 1 (the
-// left one decides: 2).
+// left one decides: 22).
 pub fn read_two(i: Interval, o: Interval) -> Two
     ensures { λ r. ⌜ r ≡ readTwo i o ⌝ }
 {

@@ -2,10 +2,10 @@
 -- growth's refusals. Assumes nothing.
 use mathlib.Core.Path.{_≡_, refl, ap, _∙_}
 use mathlib.Core.Bool.{Bool, true, false, _&&_, cond}
+use borrow.Author.Tests.{ne-eqb}
 use lib.Ieee as Ieee
 use lib.Ieee.{binary64, ofBits, lt, le, eq}
 use Rattle.consts.specs.Constants.{PI, NEG-PI, HALF}
-use Rattle.consts.specs.Refusal.{number, outOfReach, notValid}
 use Rattle.consts.specs.Reading.{plain}
 use Rattle.r1.specs.declared.interval.Interval.{Interval as Line}
 use Rattle.r1.specs.Line as line
@@ -17,10 +17,10 @@ use Rattle.s2.specs.declared.latlng.LatLng.{LatLng}
 use Rattle.s2.specs.declared.rect.Rect.{Rect}
 use Rattle.s2.specs.Zone as zone
 use Rattle.s2.specs.Zone.{at, box, validLatitudes, isValid, isEmpty, expanded}
-use Rattle.s2.specs.Reading.{rectInReach, asRead}
+use Rattle.s2.specs.Reading.{asRead, readOne}
 use Rattle.s2.specs.Answers.{rectAnswer, emptyUnder, fromLatLng, fromCenterSize, polarClosure, add}
 use Rattle.s2.specs.Places.{Valid, ValidPoint, Margins}
-use Rattle.s2.proofs.Readings.{pi-nums, one-out, one-not-valid, valid-point-plain}
+use Rattle.s2.proofs.Readings.{pi-nums, valid-point-plain}
 use Rattle.s2.proofs.Accepted.{closure-is, from-latlng-is, center-size-is}
 use Rattle.s2.proofs.Circles.{normal-seam}
 use Rattle.s2.proofs.Valid.{point-lng}
@@ -58,10 +58,6 @@ crate-closure i e = simp e (none (validLatitudes i && circle.isValid circle.FULL
     none false = refl
 
 -- ---- growth of a rectangle that is itself refused: the standard empty, whatever the point
-pub add-out : (r : Rect) (p : LatLng) → rectInReach r ≡ false → add r p ≡ emptyUnder (number outOfReach)
+pub add-start-refused : (r : Rect) (p : LatLng) → (readOne r .refusal ≡ 0 → ⊥) → add r p ≡ emptyUnder (readOne r .refusal)
 unfolding add
-add-out r p h = simp (one-out r h)
-
-pub add-not-valid : (r : Rect) (p : LatLng) → rectInReach r ≡ true → isValid r ≡ false → add r p ≡ emptyUnder (number notValid)
-unfolding add
-add-not-valid r p k h = simp (one-not-valid r k h)
+add-start-refused r p h = simp (ne-eqb (readOne r .refusal) 0 h)

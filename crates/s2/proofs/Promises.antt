@@ -9,7 +9,7 @@ use lib.Ieee.{Float, binary64, le, eq}
 use Rattle.order.specs.Choice.{abs as sizeOf}
 use Rattle.order.proofs.Ranks.{and-l, and-r, and-of}
 use Rattle.consts.specs.Constants.{PI, NEG-PI, HALF}
-use Rattle.consts.specs.Refusal.{number, accepted, outOfReach, notValid, badPoint, badMargin}
+use Rattle.consts.specs.Refusal.{number, accepted, badPoint, badMargin}
 use Rattle.consts.specs.Answer.{Decides}
 use Rattle.consts.specs.Reading.{plain}
 use Rattle.r1.specs.declared.interval.Interval.{Interval as Line}
@@ -23,12 +23,12 @@ use Rattle.s2.specs.declared.latlng.LatLng.{LatLng}
 use Rattle.s2.specs.declared.place.Place.{Place}
 use Rattle.s2.specs.declared.rect.Rect.{Rect}
 use Rattle.s2.specs.Zone as zone
-use Rattle.s2.specs.Zone.{NORTH, at, box, FULL, EMPTY, validLatitudes, isValid}
+use Rattle.s2.specs.Zone.{NORTH, at, box, FULL, EMPTY, validLatitudes, likeParts, isValid}
 use Rattle.s2.specs.Reading.{rectInReach, asRead, NoMinusRect, NoMinusPoint, readOne}
 use Rattle.s2.specs.Answers as answers
 use Rattle.s2.specs.Answers.{rectAnswer, latLngAnswer, isLatLng, fromLatLng, fromCenterSize, fromPointPair, isEmpty, isFull, isPoint, vertex, center, size, expanded, polarClosure, union, intersection, intersects, interiorIntersects, contains, interiorContains, containsLatLng, interiorContainsLatLng, add, approxEqBy}
 use Rattle.s2.specs.Places.{IsPlace, placeOf, atPole, holds, Doubles, DoublePoint, Valid, ValidPoint, Margins, Inside, Meets, Nothing, Everything, Single, Edges}
-use Rattle.s2.specs.Refusals.{beyond, faulty, sound, marginsInReach, SaysNo, GivesEmpty, GivesBack, Alone, Both, WithPoint}
+use Rattle.s2.specs.Refusals.{faulty, overLatitude, wrongCircle, unlikeParts, sound, RectReason, marginsInReach, SaysNo, GivesEmpty, GivesBack, Alone, Both, WithPoint}
 use Rattle.s2.proofs.Readings as readings
 use Rattle.s2.proofs.Refusals as refusals
 use Rattle.s2.proofs.Places as places
@@ -185,7 +185,7 @@ growth-accepted = refusals.growth-0
 pub expanded-accepted : (r : Rect) (m : LatLng) → GivesEmpty (expanded r m) (number accepted) (sound r && marginsInReach m)
 expanded-accepted = refusals.expanded-0
 
-pub approx-accepted : (r o : Rect) (e : LatLng) → SaysNo (approxEqBy r o e) (number accepted) (sound r && (sound o && marginsInReach e))
+pub approx-accepted : (r o : Rect) (e : LatLng) → SaysNo (approxEqBy r o e) (number accepted) (sound r && sound o && marginsInReach e)
 approx-accepted = refusals.near-0
 
 pub latlng-accepted : (p : LatLng) → SaysNo (isLatLng p) (number accepted) (zone.isLatLng p)
@@ -200,43 +200,39 @@ pair-accepted = refusals.pair-accepted
 pub center-size-accepted : (p s : LatLng) → GivesEmpty (fromCenterSize p s) (number accepted) (zone.isLatLng p && marginsInReach s)
 center-size-accepted = refusals.center-size-0
 
--- "1: a rectangle has a number out of reach": empty / no / zero. "Operands left to right": the right one counts where the left one is sound; points and margins come later
-pub alone-out-of-reach : (r : Rect) (k : ℕ) → Alone r k (number outOfReach) (beyond r)
-alone-out-of-reach = refusals.alone-1
+-- "1: a rectangle has a number out of reach"; "21 (latitude over its range), 22 (circle interval not valid) and 23 (one part empty, the other not), tested in that
+-- order": each exactly when its reason stands, with empty / no / zero; "a refused validity test answers no". "Operands left to right": the right one counts where the
+-- left one is sound; points and margins come later
+pub alone-refused : (r : Rect) (k : ℕ) {n : ℕ} {f : Rect → Bool} → RectReason n f → Alone r k n (f r)
+alone-refused r k w = refusals.alone-own r k w
 
-pub both-out-of-reach : (r o : Rect) → Both r o (number outOfReach) (beyond r || (sound r && beyond o))
-both-out-of-reach = refusals.both-1
+pub both-refused : (r o : Rect) {n : ℕ} {f : Rect → Bool} → RectReason n f → Both r o n (f r || (sound r && f o))
+both-refused r o w = refusals.both-own r o w
 
-pub with-point-out-of-reach : (r : Rect) (p : LatLng) → WithPoint r p (number outOfReach) (beyond r)
-with-point-out-of-reach = refusals.with-point-1
+pub with-point-refused : (r : Rect) (p : LatLng) {n : ℕ} {f : Rect → Bool} → RectReason n f → WithPoint r p n (f r)
+with-point-refused r p w = refusals.with-point-own r p w
 
-pub growth-out-of-reach : (r : Rect) (p : LatLng) → GivesEmpty (add r p) (number outOfReach) (beyond r)
-growth-out-of-reach = refusals.growth-1
+pub growth-refused : (r : Rect) (p : LatLng) {n : ℕ} {f : Rect → Bool} → RectReason n f → GivesEmpty (add r p) n (f r)
+growth-refused r p w = refusals.growth-own r p w
 
-pub expanded-out-of-reach : (r : Rect) (m : LatLng) → GivesEmpty (expanded r m) (number outOfReach) (beyond r)
-expanded-out-of-reach = refusals.expanded-1
+pub expanded-refused : (r : Rect) (m : LatLng) {n : ℕ} {f : Rect → Bool} → RectReason n f → GivesEmpty (expanded r m) n (f r)
+expanded-refused r m w = refusals.expanded-own r m w
 
-pub approx-out-of-reach : (r o : Rect) (e : LatLng) → SaysNo (approxEqBy r o e) (number outOfReach) (beyond r || (sound r && beyond o))
-approx-out-of-reach = refusals.near-1
+pub approx-refused : (r o : Rect) (e : LatLng) {n : ℕ} {f : Rect → Bool} → RectReason n f → SaysNo (approxEqBy r o e) n (f r || (sound r && f o))
+approx-refused r o e w = refusals.near-own r o e w
 
--- "2: numbers in reach, but not valid": the same. "1 before 2 in each"; "a refused validity test answers no"
-pub alone-not-valid : (r : Rect) (k : ℕ) → Alone r k (number notValid) (faulty r)
-alone-not-valid = refusals.alone-2
+-- "21, 22, 23 take 2's place": one of their reasons stands exactly where the numbers are in reach and the rectangle is not valid
+pub three-faults : (r : Rect) → faulty r ≡ overLatitude r || wrongCircle r || unlikeParts r
+three-faults r = refusals.three-faults r
 
-pub both-not-valid : (r o : Rect) → Both r o (number notValid) (faulty r || (sound r && faulty o))
-both-not-valid = refusals.both-2
+-- "latitude over its range": the size of lat.lo, or the value of lat.hi, is not at most PI/2
+pub latitude-over : (r : Rect) → Doubles r
+    → (overLatitude r ≡ true) ↔ ((rectInReach r ≡ true) × ((le (sizeOf (r .lat .lo)) NORTH ≡ false) ⊎ (le (r .lat .hi) NORTH ≡ false)))
+latitude-over r d = valids.over-means r d
 
-pub with-point-not-valid : (r : Rect) (p : LatLng) → WithPoint r p (number notValid) (faulty r)
-with-point-not-valid = refusals.with-point-2
-
-pub growth-not-valid : (r : Rect) (p : LatLng) → GivesEmpty (add r p) (number notValid) (faulty r)
-growth-not-valid = refusals.growth-2
-
-pub expanded-not-valid : (r : Rect) (m : LatLng) → GivesEmpty (expanded r m) (number notValid) (faulty r)
-expanded-not-valid = refusals.expanded-2
-
-pub approx-not-valid : (r o : Rect) (e : LatLng) → SaysNo (approxEqBy r o e) (number notValid) (faulty r || (sound r && faulty o))
-approx-not-valid = refusals.near-2
+-- "one part empty, the other not"
+pub half-empty : (r : Rect) → (likeParts r ≡ false) ↔ (line.isEmpty (r .lat) ≡ not (circle.isEmpty (r .lng)))
+half-empty r = valids.unlike-means r
 
 -- "3: a point is no valid latlng": "growth: the rectangle handed in; otherwise no / empty / zero"
 pub with-point-bad-point : (r : Rect) (p : LatLng) → WithPoint r p (number badPoint) (sound r && not (zone.isLatLng p))
@@ -261,7 +257,7 @@ center-size-bad-point = refusals.center-size-3
 pub expanded-bad-margin : (r : Rect) (m : LatLng) → GivesEmpty (expanded r m) (number badMargin) (sound r && not (marginsInReach m))
 expanded-bad-margin = refusals.expanded-4
 
-pub approx-bad-margin : (r o : Rect) (e : LatLng) → SaysNo (approxEqBy r o e) (number badMargin) (sound r && (sound o && not (marginsInReach e)))
+pub approx-bad-margin : (r o : Rect) (e : LatLng) → SaysNo (approxEqBy r o e) (number badMargin) (sound r && sound o && not (marginsInReach e))
 approx-bad-margin = refusals.near-4
 
 pub center-size-bad-margin : (p s : LatLng) → GivesEmpty (fromCenterSize p s) (number badMargin) (zone.isLatLng p && not (marginsInReach s))

@@ -4,6 +4,7 @@ use mathlib.Core.Path.{_≡_, refl, _∙_}
 use mathlib.Core.Bool.{Bool, true, false, _&&_, cond}
 use Prim.Native.Nat.{ℕ}
 use lib.Dec.{eqb}
+use borrow.Author.Tests.{eqb-true, eqb-false}
 use lib.Ieee.{Float, binary64, ofBits, fits, lt, le, eq}
 use Rattle.order.specs.Key.{Num, Real}
 use Rattle.order.proofs.Ranks.{and-l, and-r, and-of, and-off}
@@ -11,7 +12,7 @@ use Rattle.order.proofs.Facts.{le-trans, lt-le, num-l, num-r, le-no, lt-not-eq}
 use Rattle.order.proofs.Bounds.{Between, between, widen}
 use Rattle.order.proofs.Monotone.{real-num}
 use Rattle.consts.specs.Constants.{PI, NEG-PI}
-use Rattle.consts.specs.Refusal.{number, accepted, outOfReach, notValid, badPoint, firstRefusal}
+use Rattle.consts.specs.Refusal.{number, accepted, outOfReach, badPoint, firstFault, firstRefusal}
 use Rattle.consts.specs.Reading.{inReach, readNumber, LEAST, MOST}
 use Rattle.consts.proofs.Readings.{plain-fits, plain-num, plain-reach, plain-le, le-plain, plain-lt, lt-plain, plain-eq, eq-plain}
 use Rattle.r1.specs.declared.interval.Interval.{Interval as Line}
@@ -30,8 +31,8 @@ use Rattle.s1.proofs.Limits.{valid-plain}
 use Rattle.s2.specs.declared.latlng.LatLng.{LatLng}
 use Rattle.s2.specs.declared.place.Place.{Place}
 use Rattle.s2.specs.declared.rect.Rect.{Rect}
-use Rattle.s2.specs.Zone.{NORTH, SOUTH, latitude, validLatitudes, isLatLng, isValid}
-use Rattle.s2.specs.Reading.{rectInReach, asRead, plainPoint, readOne, readTwo, readPoint, readMargins, readWithPoint, readWithMargins}
+use Rattle.s2.specs.Zone.{NORTH, SOUTH, latitude, validLatitudes, likeParts, isLatLng, isValid}
+use Rattle.s2.specs.Reading.{rectInReach, asRead, plainPoint, faultOf, readOne, readTwo, readPoint, readMargins, readWithPoint, readWithMargins}
 use Rattle.s2.specs.Devices.{usual}
 use Rattle.s2.specs.Places.{IsPlace, Doubles, DoublePoint, Valid, ValidPoint, Margins, holds}
 
@@ -56,6 +57,20 @@ valid-reach {r} d v k =
     let c : circle.isValid (r .lng) ≡ true = search (and-l, and-r) in
     let on = valid-on (r .lng) c in
     and-of (and-of (and-of (latitude-reach (r .lat .lo) (d .lat-lo) a) k) (circle-reach (r .lng .lo) (d .lng-lo) (on .0))) (circle-reach (r .lng .hi) (d .lng-hi) (on .1))
+
+-- a rectangle in reach has no fault exactly when it is valid
+pub fault-decides : (r : Rect) → eqb (faultOf r) 0 ≡ isValid r
+unfolding faultOf firstFault isValid
+fault-decides r = go (validLatitudes (r .lat)) (circle.isValid (r .lng)) (likeParts r)
+  where
+    go : (a b c : Bool) → eqb (firstFault a b c) 0 ≡ a && b && c
+    go false b c = refl
+    go true false c = refl
+    go true true false = refl
+    go true true true = refl
+
+pub no-fault : (r : Rect) → isValid r ≡ true → faultOf r ≡ number accepted
+no-fault r h = eqb-true (faultOf r) 0 (fault-decides r ∙ h)
 
 -- a usual rectangle is valid, with lat.hi in reach
 module _ {r : Rect} (d : Doubles r) (u : usual r ≡ true) where
@@ -95,7 +110,7 @@ module _ {r : Rect} (d : Doubles r) (u : usual r ≡ true) where
   unfolding readOne
   usual-in =
       let v = and-l (isValid r) (inReach (r .lat .hi)) usual-valid in
-      simp (valid-reach d v (and-r (isValid r) (inReach (r .lat .hi)) usual-valid), v)
+      simp (valid-reach d v (and-r (isValid r) (inReach (r .lat .hi)) usual-valid), no-fault r v)
 
 -- of two refusals that are the same, that one is given
 pub first-same : (n : ℕ) → firstRefusal n n ≡ n
@@ -105,17 +120,6 @@ first-same n = same (eqb n 0)
     same : (b : Bool) → cond b n n ≡ n
     same true = refl
     same false = refl
-
--- in reach, a rectangle that is not accepted is not valid
-pub only-valid : (r : Rect) → isValid r && inReach (r .lat .hi) ≡ false → rectInReach r ≡ true → isValid r ≡ false
-unfolding rectInReach
-only-valid r h k =
-    let e : inReach (r .lat .hi) ≡ true = search (and-l, and-r) in
-    drop (isValid r) (inReach (r .lat .hi)) e h
-  where
-    drop : (a b : Bool) → b ≡ true → a && b ≡ false → a ≡ false
-    drop true b e h = rw e at h
-    drop false b e h = refl
 
 pub doubles-of : {r : Rect} → Valid r → Doubles r
 doubles-of v =
@@ -159,11 +163,11 @@ margins-of {m} d h =
 module _ (r : Rect) (v : Valid r) where
   pub one-in : readOne r ≡ record { refusal = number accepted; value = asRead r }
   unfolding readOne
-  one-in = simp (reach-of v, v .is-valid)
+  one-in = simp (reach-of v, no-fault r (v .is-valid))
 
   pub two-in : (o : Rect) → Valid o → readTwo r o ≡ record { refusal = number accepted; left = asRead r; right = asRead o }
   unfolding readTwo readOne firstRefusal
-  two-in o w = simp (reach-of v, v .is-valid, reach-of w, w .is-valid)
+  two-in o w = simp (reach-of v, no-fault r (v .is-valid), reach-of w, no-fault o (w .is-valid))
 
 pub point-in : (p : LatLng) → ValidPoint p → readPoint p ≡ record { refusal = number accepted; value = plainPoint p }
 unfolding readPoint
@@ -187,9 +191,9 @@ pub one-out : (r : Rect) → rectInReach r ≡ false → readOne r .refusal ≡ 
 unfolding readOne
 one-out r h = simp h
 
-pub one-not-valid : (r : Rect) → rectInReach r ≡ true → isValid r ≡ false → readOne r .refusal ≡ number notValid
+pub one-not-valid : (r : Rect) → rectInReach r ≡ true → isValid r ≡ false → (readOne r .refusal ≡ faultOf r) × (readOne r .refusal ≡ 0 → ⊥)
 unfolding readOne
-one-not-valid r k h = simp (k, h)
+one-not-valid r k h = (simp k, rw k (eqb-false (faultOf r) 0 (fault-decides r ∙ h)))
 
 pub point-bad : (p : LatLng) → isLatLng p ≡ false → readPoint p .refusal ≡ number badPoint
 unfolding readPoint

@@ -1,12 +1,13 @@
--- Each refusal number is given exactly when document 01 says, with the result stated beside it: an answer's number is its reading's, and a reading's number is
--- a choice by two or three tests, whose cases are gone through. Assumes nothing.
-use mathlib.Core.Path.{_≡_, refl, sym, subst, _∙_}
+-- Each refusal number is given exactly when documents 01 and 02 say, with the result stated beside it: an answer's number is its reading's; the number of several
+-- operands is that of the first that is refused, whatever they are; and an operand's own number is a choice by tests, whose cases are gone through. Assumes nothing.
+use mathlib.Core.Path.{_≡_, refl, sym, ap, subst, _∙_}
 use mathlib.Core.Bool.{Bool, true, false, not, _&&_, _||_, cond, false≢true}
 use mathlib.Core.Logic.{_↔_}
 use Prim.Native.Nat.{ℕ}
 use lib.Dec.{T, eqb, eqb→eq}
-use borrow.Author.Tests.{eq-eqb, ne-eqb}
-use Rattle.consts.specs.Refusal.{firstRefusal, given}
+use borrow.Author.Tests.{eq-eqb, ne-eqb, eqb-true, eqb-false}
+use Rattle.order.proofs.Ranks.{and-l, and-r}
+use Rattle.consts.specs.Refusal.{ofEntry, firstFault, firstRefusal, given}
 use Rattle.consts.specs.Answer.{yesNo, noUnder, test}
 use Rattle.consts.specs.Reading.{inReach, readNumber}
 use Rattle.s2.specs.declared.latlng.LatLng.{LatLng}
@@ -14,10 +15,11 @@ use Rattle.s2.specs.declared.rect.Rect.{Rect}
 use Rattle.s2.specs.declared.rect.Answer.{Answer}
 use Rattle.s2.specs.declared.rect.PointAnswer.{PointAnswer}
 use Rattle.consts.specs.declared.answer.YesNo.{YesNo}
+use Rattle.s1.specs.Circle as circle
 use Rattle.s2.specs.Zone as zone
-use Rattle.s2.specs.Reading.{rectInReach, asRead, plainPoint, readOne, readTwo, readPoint, readMargins, readWithPoint, readWithMargins}
+use Rattle.s2.specs.Reading.{rectInReach, faultOf, readOne, readTwo, readPoint, readMargins, readWithPoint, readWithMargins}
 use Rattle.s2.specs.Answers.{rectAnswer, emptyUnder, rectangle, latLngAnswer, zerosUnder, point, isLatLng, fromLatLng, fromCenterSize, fromPointPair, isValid, isEmpty, isFull, isPoint, isInverted, vertex, center, size, expanded, polarClosure, union, intersection, intersects, interiorIntersects, contains, interiorContains, containsLatLng, interiorContainsLatLng, add, eq, approxEq, approxEqBy}
-use Rattle.s2.specs.Refusals.{beyond, faulty, sound, marginsInReach, Exactly, SaysNo, GivesEmpty, GivesZeros, GivesBack, Alone, Both, WithPoint}
+use Rattle.s2.specs.Refusals.{faulty, overLatitude, wrongCircle, unlikeParts, sound, RectReason, of-reach, of-latitudes, of-circle, of-parts, marginsInReach, Exactly, SaysNo, GivesEmpty, GivesZeros, GivesBack, Alone, Both, WithPoint}
 
 -- ---- an answer's number
 told : (m n : ℕ) {t : Bool} → eqb m n ≡ t → (m ≡ n) ↔ (t ≡ true)
@@ -79,278 +81,268 @@ with-point : (r : Rect) (p : LatLng) (n : ℕ) {t : Bool} → eqb (readWithPoint
 unfolding containsLatLng interiorContainsLatLng
 with-point r p n e = (says-no _ n _ e, says-no _ n _ e)
 
--- ---- the numbers of a reading: of a rectangle by its reach a and its validity b; of points by one test each; of margins by two
-abbrev ofRect : Bool → Bool → ℕ
-ofRect a b = cond a (cond b 0 2) 1
+-- ---- several operands: the number of the first that is refused
+none-beside : (b : Bool) → b ≡ b || false
+none-beside true = refl
+none-beside false = refl
 
-abbrev ofPoint : Bool → ℕ
-ofPoint c = cond c 0 3
-
-abbrev ofMargins : Bool → Bool → ℕ
-ofMargins c d = firstRefusal (cond c 0 4) (cond d 0 4)
-
-one-0 : (a b : Bool) → eqb (ofRect a b) 0 ≡ a && b
-one-0 false b = refl
-one-0 true false = refl
-one-0 true true = refl
-
-one-1 : (a b : Bool) → eqb (ofRect a b) 1 ≡ not a
-one-1 false b = refl
-one-1 true false = refl
-one-1 true true = refl
-
-one-2 : (a b : Bool) → eqb (ofRect a b) 2 ≡ a && not b
-one-2 false b = refl
-one-2 true false = refl
-one-2 true true = refl
-
--- what comes after a rectangle counts where it is sound
-module _ (k : ℕ) {t : Bool} where
-  then-0 : (a b : Bool) → eqb k 0 ≡ t → eqb (firstRefusal (ofRect a b) k) 0 ≡ a && b && t
+module _ (m k : ℕ) where
+  first-0 : eqb (firstRefusal m k) 0 ≡ eqb m 0 && eqb k 0
   unfolding firstRefusal
-  then-0 false b e = refl
-  then-0 true false e = refl
-  then-0 true true e = e
+  first-0 = go (eqb m 0) refl
+    where
+      go : (t : Bool) → eqb m 0 ≡ t → eqb (cond t k m) 0 ≡ t && eqb k 0
+      go true e = refl
+      go false e = e
 
-  then-1 : (a b : Bool) → eqb k 1 ≡ t → eqb (firstRefusal (ofRect a b) k) 1 ≡ not a || (a && b && t)
+  -- a number other than 0 is the first's own, or the second's where the first is accepted
+  first-n : (n : ℕ) → eqb n 0 ≡ false → eqb (firstRefusal m k) n ≡ eqb m n || (eqb m 0 && eqb k n)
   unfolding firstRefusal
-  then-1 false b e = refl
-  then-1 true false e = refl
-  then-1 true true e = e
+  first-n n z = go (eqb m 0) refl
+    where
+      go : (t : Bool) → eqb m 0 ≡ t → eqb (cond t k m) n ≡ eqb m n || (t && eqb k n)
+      go true e = let h : eqb m n ≡ false = ne-eqb m n (λ q. eqb-false n 0 z (sym q ∙ eqb-true m 0 e)) in simp h
+      go false e = none-beside (eqb m n)
 
-  then-2 : (a b : Bool) → eqb k 2 ≡ t → eqb (firstRefusal (ofRect a b) k) 2 ≡ (a && not b) || (a && b && t)
-  unfolding firstRefusal
-  then-2 false b e = refl
-  then-2 true false e = refl
-  then-2 true true e = e
+-- with what the tests say of each
+module _ (m k : ℕ) {s t : Bool} where
+  then-0 : eqb m 0 ≡ s → eqb k 0 ≡ t → eqb (firstRefusal m k) 0 ≡ s && t
+  then-0 f g = first-0 m k ∙ simp (f, g)
 
-  then-3 : (a b : Bool) → eqb k 3 ≡ t → eqb (firstRefusal (ofRect a b) k) 3 ≡ a && b && t
-  unfolding firstRefusal
-  then-3 false b e = refl
-  then-3 true false e = refl
-  then-3 true true e = e
+  then-n : {u : Bool} (n : ℕ) → eqb n 0 ≡ false → eqb m 0 ≡ s → eqb m n ≡ t → eqb k n ≡ u → eqb (firstRefusal m k) n ≡ t || (s && u)
+  then-n n z f g h = first-n m k n z ∙ simp (f, g, h)
 
-  then-4 : (a b : Bool) → eqb k 4 ≡ t → eqb (firstRefusal (ofRect a b) k) 4 ≡ a && b && t
-  unfolding firstRefusal
-  then-4 false b e = refl
-  then-4 true false e = refl
-  then-4 true true e = e
+-- a number that only the first operand can have, or only the second
+module _ (m k n : ℕ) {t : Bool} (z : eqb n 0 ≡ false) where
+  early : eqb m n ≡ t → eqb k n ≡ false → eqb (firstRefusal m k) n ≡ t
+  early g h = first-n m k n z ∙ simp (g, h) (go t (eqb m 0))
+    where
+      go : (a b : Bool) → a || (b && false) ≡ a
+      go true b = refl
+      go false true = refl
+      go false false = refl
 
-  -- and what comes after two
-  third-0 : (a b c d : Bool) → eqb k 0 ≡ t → eqb (firstRefusal (firstRefusal (ofRect a b) (ofRect c d)) k) 0 ≡ a && b && (c && d && t)
-  unfolding firstRefusal
-  third-0 false b c d e = refl
-  third-0 true false c d e = refl
-  third-0 true true c d e = then-0 c d e
+  late : {s : Bool} → eqb m 0 ≡ s → eqb m n ≡ false → eqb k n ≡ t → eqb (firstRefusal m k) n ≡ s && t
+  late f g h = first-n m k n z ∙ simp (f, g, h)
 
-  third-4 : (a b c d : Bool) → eqb k 4 ≡ t → eqb (firstRefusal (firstRefusal (ofRect a b) (ofRect c d)) k) 4 ≡ a && b && (c && d && t)
-  unfolding firstRefusal
-  third-4 false b c d e = refl
-  third-4 true false c d e = refl
-  third-4 true true c d e = then-4 c d e
+-- ---- one operand: a rectangle by its reach a and the three tests of its validity
+abbrev OfRect : Bool → Bool → Bool → Bool → ℕ → Type 0
+OfRect a b c d m =
+    (eqb m 0 ≡ a && (b && c && d)) × (eqb m 1 ≡ not a) × (eqb m 21 ≡ a && not b) × (eqb m 22 ≡ a && (b && not c)) × (eqb m 23 ≡ a && (b && (c && not d)))
+    × (eqb m 3 ≡ false) × (eqb m 4 ≡ false)
 
--- 1 and 2 are the rectangles' own
-module _ (k : ℕ) where
-  only-1 : (a b : Bool) → eqb k 1 ≡ false → eqb (firstRefusal (ofRect a b) k) 1 ≡ not a
-  unfolding firstRefusal
-  only-1 false b e = refl
-  only-1 true false e = refl
-  only-1 true true e = e
+abbrev rectNumber : Bool → Bool → Bool → Bool → ℕ
+rectNumber a b c d = cond a (firstFault b c d) 1
 
-  only-2 : (a b : Bool) → eqb k 2 ≡ false → eqb (firstRefusal (ofRect a b) k) 2 ≡ a && not b
-  unfolding firstRefusal
-  only-2 false b e = refl
-  only-2 true false e = refl
-  only-2 true true e = e
+rect-is : (a b c d : Bool) → OfRect a b c d (rectNumber a b c d)
+unfolding firstFault
+rect-is false b c d = (refl, refl, refl, refl, refl, refl, refl)
+rect-is true false c d = (refl, refl, refl, refl, refl, refl, refl)
+rect-is true true false d = (refl, refl, refl, refl, refl, refl, refl)
+rect-is true true true false = (refl, refl, refl, refl, refl, refl, refl)
+rect-is true true true true = (refl, refl, refl, refl, refl, refl, refl)
 
-  third-1 : (a b c d : Bool) → eqb k 1 ≡ false → eqb (firstRefusal (firstRefusal (ofRect a b) (ofRect c d)) k) 1 ≡ not a || (a && b && not c)
-  unfolding firstRefusal
-  third-1 false b c d e = refl
-  third-1 true false c d e = refl
-  third-1 true true c d e = only-1 c d e
+-- a point by one test, margins by two
+abbrev OfOther : Bool → ℕ → ℕ → Type 0
+OfOther t w m = (eqb m 0 ≡ t) × (eqb m w ≡ not t) × (eqb m 1 ≡ false) × (eqb m 21 ≡ false) × (eqb m 22 ≡ false) × (eqb m 23 ≡ false)
 
-  third-2 : (a b c d : Bool) → eqb k 2 ≡ false → eqb (firstRefusal (firstRefusal (ofRect a b) (ofRect c d)) k) 2 ≡ (a && not b) || (a && b && (c && not d))
-  unfolding firstRefusal
-  third-2 false b c d e = refl
-  third-2 true false c d e = refl
-  third-2 true true c d e = only-2 c d e
+point-is : (c : Bool) → OfOther c 3 (cond c 0 3)
+point-is true = (refl, refl, refl, refl, refl, refl)
+point-is false = (refl, refl, refl, refl, refl, refl)
 
--- points and margins
-abbrev Point : Bool → Type 0
-Point c = (eqb (ofPoint c) 0 ≡ c) × (eqb (ofPoint c) 1 ≡ false) × (eqb (ofPoint c) 2 ≡ false) × (eqb (ofPoint c) 3 ≡ not c) × (eqb (ofPoint c) 4 ≡ false)
-
-point-is : (c : Bool) → Point c
-point-is true = (refl, refl, refl, refl, refl)
-point-is false = (refl, refl, refl, refl, refl)
-
-abbrev Margin : Bool → Bool → Type 0
-Margin c d =
-    (eqb (ofMargins c d) 0 ≡ c && d) × (eqb (ofMargins c d) 1 ≡ false) × (eqb (ofMargins c d) 2 ≡ false) × (eqb (ofMargins c d) 3 ≡ false)
-    × (eqb (ofMargins c d) 4 ≡ not (c && d))
-
-margin-is : (c d : Bool) → Margin c d
+margins-are : (c d : Bool) → OfOther (c && d) 4 (firstRefusal (cond c 0 4) (cond d 0 4)) × (eqb (firstRefusal (cond c 0 4) (cond d 0 4)) 3 ≡ false)
 unfolding firstRefusal
-margin-is true true = (refl, refl, refl, refl, refl)
-margin-is true false = (refl, refl, refl, refl, refl)
-margin-is false d = (refl, refl, refl, refl, refl)
+margins-are true true = ((refl, refl, refl, refl, refl, refl), refl)
+margins-are true false = ((refl, refl, refl, refl, refl, refl), refl)
+margins-are false d = ((refl, refl, refl, refl, refl, refl), refl)
 
--- two points
-pair-0 : (c d : Bool) → eqb (firstRefusal (ofPoint c) (ofPoint d)) 0 ≡ c && d
-unfolding firstRefusal
-pair-0 false d = refl
-pair-0 true d = point-is d .0
+module _ (r : Rect) where
+  pub of-rect : OfRect (rectInReach r) (zone.validLatitudes (r .lat)) (circle.isValid (r .lng)) (zone.likeParts r) (readOne r .refusal)
+  unfolding readOne faultOf
+  of-rect = rect-is (rectInReach r) (zone.validLatitudes (r .lat)) (circle.isValid (r .lng)) (zone.likeParts r)
 
-pair-3 : (c d : Bool) → eqb (firstRefusal (ofPoint c) (ofPoint d)) 3 ≡ not (c && d)
-unfolding firstRefusal
-pair-3 false d = refl
-pair-3 true d = point-is d .3
+  -- its numbers: 0, 1, 21, 22, 23, and never 3 or 4
+  at-0 : eqb (readOne r .refusal) 0 ≡ sound r
+  unfolding zone.isValid
+  at-0 = of-rect .0
 
--- a point, then margins
-module _ (k : ℕ) {t : Bool} where
-  sized-0 : (c : Bool) → eqb k 0 ≡ t → eqb (firstRefusal (ofPoint c) k) 0 ≡ c && t
-  unfolding firstRefusal
-  sized-0 false e = refl
-  sized-0 true e = e
+  -- one of the last three stands exactly where it is in reach and not valid
+  pub three-faults : faulty r ≡ overLatitude r || wrongCircle r || unlikeParts r
+  unfolding zone.isValid
+  three-faults = go (rectInReach r) (zone.validLatitudes (r .lat)) (circle.isValid (r .lng)) (zone.likeParts r)
+    where
+      go : (a b c d : Bool) → a && not (b && c && d) ≡ (a && not b) || (a && (b && not c)) || (a && (b && (c && not d)))
+      go false b c d = refl
+      go true false c d = refl
+      go true true false d = refl
+      go true true true false = refl
+      go true true true true = refl
 
-  sized-4 : (c : Bool) → eqb k 4 ≡ t → eqb (firstRefusal (ofPoint c) k) 4 ≡ c && t
-  unfolding firstRefusal
-  sized-4 false e = refl
-  sized-4 true e = e
+of-point : (p : LatLng) → OfOther (zone.isLatLng p) 3 (readPoint p .refusal)
+unfolding readPoint
+of-point p = point-is (zone.isLatLng p)
 
-sized-3 : (k : ℕ) (c : Bool) → eqb k 3 ≡ false → eqb (firstRefusal (ofPoint c) k) 3 ≡ not c
-unfolding firstRefusal
-sized-3 k false e = refl
-sized-3 k true e = e
+of-margins : (m : LatLng) → OfOther (marginsInReach m) 4 (readMargins m .refusal) × (eqb (readMargins m .refusal) 3 ≡ false)
+unfolding readMargins readNumber
+of-margins m = margins-are (inReach (m .lat)) (inReach (m .lng))
+
+-- ---- a number that rectangles alone have: it is not 0, is given for its reason, and no point or margin has it
+own-not-0 : {n : ℕ} {f : Rect → Bool} → RectReason n f → eqb n 0 ≡ false
+own-not-0 of-reach = refl
+own-not-0 of-latitudes = refl
+own-not-0 of-circle = refl
+own-not-0 of-parts = refl
+
+own-is : {n : ℕ} {f : Rect → Bool} → RectReason n f → (r : Rect) → eqb (readOne r .refusal) n ≡ f r
+own-is of-reach r = of-rect r .1
+own-is of-latitudes r = of-rect r .2
+own-is of-circle r = of-rect r .3
+own-is of-parts r = of-rect r .4
+
+pub reason-number : {n : ℕ} {f : Rect → Bool} → RectReason n f → ofEntry n ≡ true
+unfolding ofEntry
+reason-number of-reach = refl
+reason-number of-latitudes = refl
+reason-number of-circle = refl
+reason-number of-parts = refl
+
+pub accepted-when : (r : Rect) → (readOne r .refusal ≡ 0) ↔ (sound r ≡ true)
+accepted-when r = told (readOne r .refusal) 0 (at-0 r)
+
+pub number-when : {n : ℕ} {f : Rect → Bool} → RectReason n f → (r : Rect) → (readOne r .refusal ≡ n) ↔ (f r ≡ true)
+number-when {n} w r = told (readOne r .refusal) n (own-is w r)
+
+-- and it has no others
+pub own-number : (r : Rect) → eqb (readOne r .refusal) 0 || ofEntry (readOne r .refusal) ≡ true
+unfolding readOne faultOf firstFault ofEntry
+own-number r = go (rectInReach r) (zone.validLatitudes (r .lat)) (circle.isValid (r .lng)) (zone.likeParts r)
+  where
+    go : (a b c d : Bool) → eqb (rectNumber a b c d) 0 || ofEntry (rectNumber a b c d) ≡ true
+    go false b c d = refl
+    go true false c d = refl
+    go true true false d = refl
+    go true true true false = refl
+    go true true true true = refl
+
+pub never : (r : Rect) (n : ℕ) → eqb n 0 || ofEntry n ≡ false → readOne r .refusal ≡ n → ⊥
+never r n h e = false≢true (sym h ∙ subst (λ (m : ℕ). eqb m 0 || ofEntry m ≡ true) e (own-number r))
+
+own-alone : {n : ℕ} {f : Rect → Bool} → RectReason n f → (t : Bool) (w m : ℕ) → OfOther t w m → eqb m n ≡ false
+own-alone of-reach t w m o = o .2
+own-alone of-latitudes t w m o = o .3
+own-alone of-circle t w m o = o .4
+own-alone of-parts t w m o = o .5
 
 -- ---- growth by a point: the second refusal hands the rectangle back
-abbrev addOf : Bool → Bool → Bool → Rect → Rect → Answer
-addOf a b c g r = given (ofRect a b) (given (ofPoint c) (rectAnswer g) (record { refusal = ofPoint c; value = r })) (emptyUnder (ofRect a b))
+add-number : (r : Rect) (p : LatLng) → add r p .refusal ≡ firstRefusal (readOne r .refusal) (readPoint p .refusal)
+unfolding add firstRefusal
+add-number r p = go (eqb (readOne r .refusal) 0) (eqb (readPoint p .refusal) 0) refl
+  where
+    go : (s t : Bool) → eqb (readPoint p .refusal) 0 ≡ t
+        → cond s (cond t (rectAnswer (zone.add (readOne r .value) (readPoint p .value))) (record { refusal = readPoint p .refusal; value = r })) (emptyUnder (readOne r .refusal)) .refusal
+        ≡ cond s (readPoint p .refusal) (readOne r .refusal)
+    go true true e = sym (eqb-true (readPoint p .refusal) 0 e)
+    go true false e = refl
+    go false t e = refl
 
-settled : {x y : Answer} (n : ℕ) {t : Bool} → eqb (x .refusal) n ≡ t → (t ≡ true → x ≡ y) → Exactly (λ (z : Answer). z .refusal) x y n t
-settled {x} n e f = record { exactly = told (x .refusal) n e; result = λ z h. f h }
-
-add-0 : (a b c : Bool) (g r : Rect) → (addOf a b c g r .refusal ≡ 0) ↔ (a && b && c ≡ true)
-add-0 false b c g r = told 1 0 refl
-add-0 true false c g r = told 2 0 refl
-add-0 true true false g r = told 3 0 refl
-add-0 true true true g r = told 0 0 refl
-
-add-1 : (a b c : Bool) (g r : Rect) → GivesEmpty (addOf a b c g r) 1 (not a)
-add-1 false b c g r = settled 1 refl (λ h. refl)
-add-1 true false c g r = settled 1 refl (λ h. absurd (false≢true h))
-add-1 true true false g r = settled 1 refl (λ h. absurd (false≢true h))
-add-1 true true true g r = settled 1 refl (λ h. absurd (false≢true h))
-
-add-2 : (a b c : Bool) (g r : Rect) → GivesEmpty (addOf a b c g r) 2 (a && not b)
-add-2 false b c g r = settled 2 refl (λ h. absurd (false≢true h))
-add-2 true false c g r = settled 2 refl (λ h. refl)
-add-2 true true false g r = settled 2 refl (λ h. absurd (false≢true h))
-add-2 true true true g r = settled 2 refl (λ h. absurd (false≢true h))
-
-add-3 : (a b c : Bool) (g r : Rect) → GivesBack r (addOf a b c g r) 3 (a && b && not c)
-add-3 false b c g r = settled 3 refl (λ h. absurd (false≢true h))
-add-3 true false c g r = settled 3 refl (λ h. absurd (false≢true h))
-add-3 true true false g r = settled 3 refl (λ h. refl)
-add-3 true true true g r = settled 3 refl (λ h. absurd (false≢true h))
+near-when : (r o : Rect) (e : LatLng) (n : ℕ) {t : Bool} → eqb (firstRefusal (readTwo r o .refusal) (readMargins e .refusal)) n ≡ t → SaysNo (approxEqBy r o e) n t
+unfolding approxEqBy
+near-when r o e n h = says-no _ n _ h
 
 -- ---- of the operations
 module _ (r : Rect) (k : ℕ) where
   pub alone-0 : Alone r k 0 (sound r)
-  alone-0 = alone r k 0 (unfold readOne in one-0 (rectInReach r) (zone.isValid r))
+  alone-0 = alone r k 0 (at-0 r)
 
-  pub alone-1 : Alone r k 1 (beyond r)
-  alone-1 = alone r k 1 (unfold readOne in one-1 (rectInReach r) (zone.isValid r))
-
-  pub alone-2 : Alone r k 2 (faulty r)
-  alone-2 = alone r k 2 (unfold readOne in one-2 (rectInReach r) (zone.isValid r))
+  pub alone-own : {n : ℕ} {f : Rect → Bool} → RectReason n f → Alone r k n (f r)
+  alone-own {n} w = alone r k n (own-is w r)
 
 module _ (r o : Rect) where
+  two-0 : eqb (readTwo r o .refusal) 0 ≡ sound r && sound o
+  unfolding readTwo
+  two-0 = then-0 _ _ (at-0 r) (at-0 o)
+
   pub both-0 : Both r o 0 (sound r && sound o)
-  both-0 = both r o 0 (unfold readTwo readOne in then-0 _ (rectInReach r) (zone.isValid r) (one-0 (rectInReach o) (zone.isValid o)))
+  both-0 = both r o 0 two-0
 
-  pub both-1 : Both r o 1 (beyond r || (sound r && beyond o))
-  both-1 = both r o 1 (unfold readTwo readOne in then-1 _ (rectInReach r) (zone.isValid r) (one-1 (rectInReach o) (zone.isValid o)))
+  two-own : {n : ℕ} {f : Rect → Bool} → RectReason n f → eqb (readTwo r o .refusal) n ≡ f r || (sound r && f o)
+  unfolding readTwo
+  two-own {n} w = then-n _ _ n (own-not-0 w) (at-0 r) (own-is w r) (own-is w o)
 
-  pub both-2 : Both r o 2 (faulty r || (sound r && faulty o))
-  both-2 = both r o 2 (unfold readTwo readOne in then-2 _ (rectInReach r) (zone.isValid r) (one-2 (rectInReach o) (zone.isValid o)))
+  pub both-own : {n : ℕ} {f : Rect → Bool} → RectReason n f → Both r o n (f r || (sound r && f o))
+  both-own {n} w = both r o n (two-own w)
+
+  -- two rectangles, then errors
+  module _ (e : LatLng) where
+    pub near-0 : SaysNo (approxEqBy r o e) 0 (sound r && sound o && marginsInReach e)
+    near-0 = near-when r o e 0 (then-0 _ _ two-0 (of-margins e .0 .0))
+
+    pub near-own : {n : ℕ} {f : Rect → Bool} → RectReason n f → SaysNo (approxEqBy r o e) n (f r || (sound r && f o))
+    near-own {n} w = near-when r o e n (early _ _ n (own-not-0 w) (two-own w) (own-alone w _ 4 (readMargins e .refusal) (of-margins e .0)))
+
+    pub near-4 : SaysNo (approxEqBy r o e) 4 (sound r && sound o && not (marginsInReach e))
+    near-4 =
+        near-when r o e 4
+        (late _ _ 4 refl two-0 (unfold readTwo in early (readOne r .refusal) (readOne o .refusal) 4 refl (of-rect r .6) (of-rect o .6)) (of-margins e .0 .1))
 
 module _ (r : Rect) (p : LatLng) where
+  point-0 : eqb (firstRefusal (readOne r .refusal) (readPoint p .refusal)) 0 ≡ sound r && zone.isLatLng p
+  point-0 = then-0 _ _ (at-0 r) (of-point p .0)
+
+  point-own : {n : ℕ} {f : Rect → Bool} → RectReason n f → eqb (firstRefusal (readOne r .refusal) (readPoint p .refusal)) n ≡ f r
+  point-own {n} w = early _ _ n (own-not-0 w) (own-is w r) (own-alone w _ 3 (readPoint p .refusal) (of-point p))
+
+  point-3 : eqb (firstRefusal (readOne r .refusal) (readPoint p .refusal)) 3 ≡ sound r && not (zone.isLatLng p)
+  point-3 = late _ _ 3 refl (at-0 r) (of-rect r .5) (of-point p .1)
+
   pub with-point-0 : WithPoint r p 0 (sound r && zone.isLatLng p)
-  with-point-0 = with-point r p 0 (unfold readWithPoint readOne readPoint in then-0 _ (rectInReach r) (zone.isValid r) (point-is (zone.isLatLng p) .0))
+  with-point-0 = with-point r p 0 (unfold readWithPoint in point-0)
 
-  pub with-point-1 : WithPoint r p 1 (beyond r)
-  with-point-1 = with-point r p 1 (unfold readWithPoint readOne readPoint in only-1 _ (rectInReach r) (zone.isValid r) (point-is (zone.isLatLng p) .1))
-
-  pub with-point-2 : WithPoint r p 2 (faulty r)
-  with-point-2 = with-point r p 2 (unfold readWithPoint readOne readPoint in only-2 _ (rectInReach r) (zone.isValid r) (point-is (zone.isLatLng p) .2))
+  pub with-point-own : {n : ℕ} {f : Rect → Bool} → RectReason n f → WithPoint r p n (f r)
+  with-point-own {n} w = with-point r p n (unfold readWithPoint in point-own w)
 
   pub with-point-3 : WithPoint r p 3 (sound r && not (zone.isLatLng p))
-  with-point-3 = with-point r p 3 (unfold readWithPoint readOne readPoint in then-3 _ (rectInReach r) (zone.isValid r) (point-is (zone.isLatLng p) .3))
+  with-point-3 = with-point r p 3 (unfold readWithPoint in point-3)
 
   pub growth-0 : (add r p .refusal ≡ 0) ↔ (sound r && zone.isLatLng p ≡ true)
-  unfolding add readOne readPoint
-  growth-0 = add-0 (rectInReach r) (zone.isValid r) (zone.isLatLng p) (zone.add (asRead r) (plainPoint p)) r
+  growth-0 = told (add r p .refusal) 0 (ap (λ (n : ℕ). eqb n 0) (add-number r p) ∙ point-0)
 
-  pub growth-1 : GivesEmpty (add r p) 1 (beyond r)
-  unfolding add readOne readPoint
-  growth-1 = add-1 (rectInReach r) (zone.isValid r) (zone.isLatLng p) (zone.add (asRead r) (plainPoint p)) r
+  start-refused : {n : ℕ} → readOne r .refusal ≡ n → eqb n 0 ≡ false → add r p ≡ emptyUnder n
+  unfolding add
+  start-refused e z = simp (e, z)
 
-  pub growth-2 : GivesEmpty (add r p) 2 (faulty r)
-  unfolding add readOne readPoint
-  growth-2 = add-2 (rectInReach r) (zone.isValid r) (zone.isLatLng p) (zone.add (asRead r) (plainPoint p)) r
+  point-refused : {n : ℕ} → eqb (readOne r .refusal) 0 ≡ true → readPoint p .refusal ≡ n → eqb n 0 ≡ false → add r p ≡ record { refusal = n; value = r }
+  unfolding add
+  point-refused s e z = simp (s, e, z)
+
+  pub growth-own : {n : ℕ} {f : Rect → Bool} → RectReason n f → GivesEmpty (add r p) n (f r)
+  growth-own {n} w =
+      record {
+        exactly = told (add r p .refusal) n (ap (λ (m : ℕ). eqb m n) (add-number r p) ∙ point-own w);
+        result = λ z h. start-refused (told (readOne r .refusal) n (own-is w r) .1 h) (own-not-0 w);
+      }
 
   pub growth-3 : GivesBack r (add r p) 3 (sound r && not (zone.isLatLng p))
-  unfolding add readOne readPoint
-  growth-3 = add-3 (rectInReach r) (zone.isValid r) (zone.isLatLng p) (zone.add (asRead r) (plainPoint p)) r
+  growth-3 =
+      record {
+        exactly = told (add r p .refusal) 3 (ap (λ (m : ℕ). eqb m 3) (add-number r p) ∙ point-3);
+        result = λ z h. point-refused (at-0 r ∙ and-l (sound r) _ h) (eqb-true (readPoint p .refusal) 3 (of-point p .1 ∙ and-r (sound r) _ h)) refl;
+      }
 
 -- of margins
 expanded-when : (r : Rect) (m : LatLng) (n : ℕ) {t : Bool} → eqb (readWithMargins r m .refusal) n ≡ t → GivesEmpty (expanded r m) n t
 unfolding expanded
 expanded-when r m n e = gives-empty _ n _ e
 
-abbrev off : LatLng → ℕ
-off m = ofMargins (inReach (m .lat)) (inReach (m .lng))
-
-off-is : (m : LatLng) → Margin (inReach (m .lat)) (inReach (m .lng))
-off-is m = margin-is (inReach (m .lat)) (inReach (m .lng))
-
 module _ (r : Rect) (m : LatLng) where
   pub expanded-0 : GivesEmpty (expanded r m) 0 (sound r && marginsInReach m)
-  unfolding readWithMargins readOne readMargins readNumber
-  expanded-0 = expanded-when r m 0 (then-0 (off m) (rectInReach r) (zone.isValid r) (off-is m .0))
+  expanded-0 = expanded-when r m 0 (unfold readWithMargins in then-0 _ _ (at-0 r) (of-margins m .0 .0))
 
-  pub expanded-1 : GivesEmpty (expanded r m) 1 (beyond r)
-  unfolding readWithMargins readOne readMargins readNumber
-  expanded-1 = expanded-when r m 1 (only-1 (off m) (rectInReach r) (zone.isValid r) (off-is m .1))
-
-  pub expanded-2 : GivesEmpty (expanded r m) 2 (faulty r)
-  unfolding readWithMargins readOne readMargins readNumber
-  expanded-2 = expanded-when r m 2 (only-2 (off m) (rectInReach r) (zone.isValid r) (off-is m .2))
+  pub expanded-own : {n : ℕ} {f : Rect → Bool} → RectReason n f → GivesEmpty (expanded r m) n (f r)
+  expanded-own {n} w = expanded-when r m n (unfold readWithMargins in early _ _ n (own-not-0 w) (own-is w r) (own-alone w _ 4 (readMargins m .refusal) (of-margins m .0)))
 
   pub expanded-4 : GivesEmpty (expanded r m) 4 (sound r && not (marginsInReach m))
-  unfolding readWithMargins readOne readMargins readNumber
-  expanded-4 = expanded-when r m 4 (then-4 (off m) (rectInReach r) (zone.isValid r) (off-is m .4))
-
-near-when : (r o : Rect) (e : LatLng) (n : ℕ) {t : Bool} → eqb (firstRefusal (readTwo r o .refusal) (readMargins e .refusal)) n ≡ t → SaysNo (approxEqBy r o e) n t
-unfolding approxEqBy
-near-when r o e n h = says-no _ n _ h
-
-module _ (r o : Rect) (e : LatLng) where
-  pub near-0 : SaysNo (approxEqBy r o e) 0 (sound r && (sound o && marginsInReach e))
-  unfolding readTwo readOne readMargins readNumber
-  near-0 = near-when r o e 0 (third-0 (off e) (rectInReach r) (zone.isValid r) (rectInReach o) (zone.isValid o) (off-is e .0))
-
-  pub near-1 : SaysNo (approxEqBy r o e) 1 (beyond r || (sound r && beyond o))
-  unfolding readTwo readOne readMargins readNumber
-  near-1 = near-when r o e 1 (third-1 (off e) (rectInReach r) (zone.isValid r) (rectInReach o) (zone.isValid o) (off-is e .1))
-
-  pub near-2 : SaysNo (approxEqBy r o e) 2 (faulty r || (sound r && faulty o))
-  unfolding readTwo readOne readMargins readNumber
-  near-2 = near-when r o e 2 (third-2 (off e) (rectInReach r) (zone.isValid r) (rectInReach o) (zone.isValid o) (off-is e .2))
-
-  pub near-4 : SaysNo (approxEqBy r o e) 4 (sound r && (sound o && not (marginsInReach e)))
-  unfolding readTwo readOne readMargins readNumber
-  near-4 = near-when r o e 4 (third-4 (off e) (rectInReach r) (zone.isValid r) (rectInReach o) (zone.isValid o) (off-is e .4))
+  expanded-4 = expanded-when r m 4 (unfold readWithMargins in late _ _ 4 refl (at-0 r) (of-rect r .6) (of-margins m .0 .1))
 
 -- of points
 module _ (p : LatLng) (n : ℕ) {t : Bool} where
@@ -372,38 +364,38 @@ module _ (p : LatLng) (n : ℕ) {t : Bool} where
 
 module _ (p : LatLng) where
   pub latlng-0 : SaysNo (isLatLng p) 0 (zone.isLatLng p)
-  unfolding readPoint
-  latlng-0 = latlng-when p 0 (point-is (zone.isLatLng p) .0)
+  latlng-0 = latlng-when p 0 (of-point p .0)
 
   pub latlng-3 : SaysNo (isLatLng p) 3 (not (zone.isLatLng p))
-  unfolding readPoint
-  latlng-3 = latlng-when p 3 (point-is (zone.isLatLng p) .3)
+  latlng-3 = latlng-when p 3 (of-point p .1)
 
   pub from-latlng-0 : GivesEmpty (fromLatLng p) 0 (zone.isLatLng p)
-  unfolding readPoint
-  from-latlng-0 = from-latlng-when p 0 (point-is (zone.isLatLng p) .0)
+  from-latlng-0 = from-latlng-when p 0 (of-point p .0)
 
   pub from-latlng-3 : GivesEmpty (fromLatLng p) 3 (not (zone.isLatLng p))
-  unfolding readPoint
-  from-latlng-3 = from-latlng-when p 3 (point-is (zone.isLatLng p) .3)
+  from-latlng-3 = from-latlng-when p 3 (of-point p .1)
 
-  pub pair-accepted : (q : LatLng) → GivesEmpty (fromPointPair p q) 0 (zone.isLatLng p && zone.isLatLng q)
-  unfolding readPoint
-  pair-accepted q = pair-when p 0 q (pair-0 (zone.isLatLng p) (zone.isLatLng q))
+  module _ (q : LatLng) where
+    pub pair-accepted : GivesEmpty (fromPointPair p q) 0 (zone.isLatLng p && zone.isLatLng q)
+    pair-accepted = pair-when p 0 q (then-0 _ _ (of-point p .0) (of-point q .0))
 
-  pub pair-refused : (q : LatLng) → GivesEmpty (fromPointPair p q) 3 (not (zone.isLatLng p && zone.isLatLng q))
-  unfolding readPoint
-  pair-refused q = pair-when p 3 q (pair-3 (zone.isLatLng p) (zone.isLatLng q))
+    pub pair-refused : GivesEmpty (fromPointPair p q) 3 (not (zone.isLatLng p && zone.isLatLng q))
+    pair-refused = pair-when p 3 q (then-n _ _ 3 refl (of-point p .0) (of-point p .1) (of-point q .1) ∙ go (zone.isLatLng p) (zone.isLatLng q))
+      where
+        go : (a b : Bool) → not a || (a && not b) ≡ not (a && b)
+        go true b = refl
+        go false b = refl
 
-module _ (p s : LatLng) where
-  pub center-size-0 : GivesEmpty (fromCenterSize p s) 0 (zone.isLatLng p && marginsInReach s)
-  unfolding readPoint readMargins readNumber
-  center-size-0 = center-size-when p 0 s (sized-0 (off s) (zone.isLatLng p) (off-is s .0))
+  module _ (s : LatLng) where
+    pub center-size-0 : GivesEmpty (fromCenterSize p s) 0 (zone.isLatLng p && marginsInReach s)
+    center-size-0 = center-size-when p 0 s (then-0 _ _ (of-point p .0) (of-margins s .0 .0))
 
-  pub center-size-3 : GivesEmpty (fromCenterSize p s) 3 (not (zone.isLatLng p))
-  unfolding readPoint readMargins readNumber
-  center-size-3 = center-size-when p 3 s (sized-3 (off s) (zone.isLatLng p) (off-is s .3))
+    pub center-size-3 : GivesEmpty (fromCenterSize p s) 3 (not (zone.isLatLng p))
+    center-size-3 = center-size-when p 3 s (early _ _ 3 refl (of-point p .1) (of-margins s .1))
 
-  pub center-size-4 : GivesEmpty (fromCenterSize p s) 4 (zone.isLatLng p && not (marginsInReach s))
-  unfolding readPoint readMargins readNumber
-  center-size-4 = center-size-when p 4 s (sized-4 (off s) (zone.isLatLng p) (off-is s .4))
+    pub center-size-4 : GivesEmpty (fromCenterSize p s) 4 (zone.isLatLng p && not (marginsInReach s))
+    center-size-4 = center-size-when p 4 s (late _ _ 4 refl (of-point p .0) (unfold readPoint in never-4 (zone.isLatLng p)) (of-margins s .0 .1))
+      where
+        never-4 : (c : Bool) → eqb (cond {A = ℕ} c 0 3) 4 ≡ false
+        never-4 true = refl
+        never-4 false = refl

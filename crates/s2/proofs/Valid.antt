@@ -2,7 +2,7 @@
 -- circle's. Assumes nothing.
 use mathlib.Core.Path.{_≡_, refl, sym, _∙_}
 use mathlib.Core.Bool.{Bool, true, false, not, _&&_, _||_, cond, false≢true}
-use mathlib.Core.Logic.{_↔_}
+use mathlib.Core.Logic.{_⊎_, inl, inr, _↔_}
 use lib.Ieee.{ofBits, fits, neg, lt, le, eq}
 use Rattle.order.specs.Choice.{abs}
 use Rattle.order.proofs.Ranks.{and-l, and-r, and-of}
@@ -23,10 +23,11 @@ use Rattle.s1.proofs.Limits.{OnCircle, seam-place}
 use Rattle.s2.specs.declared.latlng.LatLng.{LatLng}
 use Rattle.s2.specs.declared.rect.Rect.{Rect}
 use Rattle.s2.specs.Zone as zone
-use Rattle.s2.specs.Zone.{NORTH, SOUTH, box, FULL, EMPTY, latitude, validLatitudes, alike, isLatLng, isValid, isEmpty}
+use Rattle.s2.specs.Zone.{NORTH, SOUTH, box, FULL, EMPTY, latitude, validLatitudes, alike, likeParts, isLatLng, isValid, isEmpty}
 use Rattle.s2.specs.Answers.{fromLatLng, fromCenterSize, fromPointPair, expanded, polarClosure, union, intersection, add}
 use Rattle.s2.specs.Places.{Doubles, Valid, ValidPoint, Margins}
 use Rattle.s2.specs.Reading.{rectInReach}
+use Rattle.s2.specs.Refusals.{overLatitude}
 use Rattle.s2.proofs.Readings.{poles, valid-read, valid-point-plain, margins-plain}
 use Rattle.s2.proofs.Accepted.{union-is, intersection-is, closure-is, expanded-is, add-is, from-latlng-is, center-size-is, pair-is}
 use Rattle.s2.proofs.Latitudes.{South, Range, range-of, range-reach, range-valid, south-of, north-of, union-range, intersection-range, add-range, pair-range, union-empty, add-filled, pair-filled, point-filled}
@@ -68,13 +69,44 @@ south-is : neg NORTH ≡ SOUTH
 unfolding ofBits neg
 south-is = refl
 
+-- of numbers in reach, a latitude lies from pole to pole by its size
+size-is : (r : Rect) → Doubles r → rectInReach r ≡ true → le (abs (r .lat .lo)) NORTH ≡ latitude (r .lat .lo)
+unfolding latitude rectInReach
+size-is r d h =
+    let n = reach-num (r .lat .lo) (d .lat-lo) (and-l _ _ (and-l _ _ (and-l _ _ h))) in
+    size-le (r .lat .lo) NORTH n (real-num NORTH (poles .1)) ∙ rw south-is refl
+
 pub valid-means : (r : Rect) → Doubles r → rectInReach r ≡ true
     → (isValid r ≡ true) ↔ ((le (abs (r .lat .lo)) NORTH ≡ true) × (le (r .lat .hi) NORTH ≡ true) × (circle.isValid (r .lng) ≡ true) × (line.isEmpty (r .lat) ≡ circle.isEmpty (r .lng)))
-unfolding isValid latitude rectInReach
-valid-means r d h =
-    let n = reach-num (r .lat .lo) (d .lat-lo) (and-l _ _ (and-l _ _ (and-l _ _ h))) in
-    rw (size-le (r .lat .lo) NORTH n (real-num NORTH (poles .1)), south-is)
-    (valid-parts (le SOUTH (r .lat .lo) && le (r .lat .lo) NORTH) (le (r .lat .hi) NORTH) (circle.isValid (r .lng)) (line.isEmpty (r .lat)) (circle.isEmpty (r .lng)))
+unfolding isValid
+valid-means r d h = rw (size-is r d h) (valid-parts (latitude (r .lat .lo)) (le (r .lat .hi) NORTH) (circle.isValid (r .lng)) (line.isEmpty (r .lat)) (circle.isEmpty (r .lng)))
+
+-- and what it is to have the latitudes over their range, or parts that are not alike
+pub over-means : (r : Rect) → Doubles r
+    → (overLatitude r ≡ true) ↔ ((rectInReach r ≡ true) × ((le (abs (r .lat .lo)) NORTH ≡ false) ⊎ (le (r .lat .hi) NORTH ≡ false)))
+over-means r d = (
+  (λ h. let k = and-l (rectInReach r) _ h in (k, rw (size-is r d k) (there (latitude (r .lat .lo)) (le (r .lat .hi) NORTH) (and-r (rectInReach r) _ h)))),
+  (λ h. and-of (h .0) (back (latitude (r .lat .lo)) (le (r .lat .hi) NORTH) (rw (size-is r d (h .0)) at (h .1)))),
+)
+  where
+    there : (a b : Bool) → not (a && b) ≡ true → (a ≡ false) ⊎ (b ≡ false)
+    there true true h = absurd (false≢true h)
+    there true false h = inr refl
+    there false b h = inl refl
+
+    back : (a b : Bool) → (a ≡ false) ⊎ (b ≡ false) → not (a && b) ≡ true
+    back a b (inl e) = rw e refl
+    back true b (inr e) = rw e refl
+    back false b (inr e) = refl
+
+pub unlike-means : (r : Rect) → (likeParts r ≡ false) ↔ (line.isEmpty (r .lat) ≡ not (circle.isEmpty (r .lng)))
+unlike-means r = go (line.isEmpty (r .lat)) (circle.isEmpty (r .lng))
+  where
+    go : (a b : Bool) → (alike a b ≡ false) ↔ (a ≡ not b)
+    go true true = (λ h. h, λ h. h)
+    go true false = (λ h. refl, λ h. refl)
+    go false true = (λ h. refl, λ h. refl)
+    go false false = (λ h. sym h, λ h. sym h)
 
 pub made : {lat : Line} {lng : Circle} → Range lat → LngValid lng → line.isEmpty lat ≡ circle.isEmpty lng → Valid (box lat lng)
 unfolding isValid

@@ -1,12 +1,14 @@
--- The words of document 01's "Refusal numbers" for points and rectangles: what an operand is found to be, and what it is that a number is "given exactly
+-- The words of document 01's "Refusal numbers", and of document 02's T-02, for points and rectangles: what an operand is found to be, and what it is that a number is "given exactly
 -- when" it is so, of each operation of a kind. Definitions only; the laws are in proofs/Refusals.antt.
 use mathlib.Core.Path.{_≡_}
 use mathlib.Core.Bool.{Bool, true, not, _&&_}
 use mathlib.Core.Logic.{_↔_}
 use Prim.Native.Nat.{ℕ}
 use Rattle.consts.specs.declared.answer.YesNo.{YesNo}
+use Rattle.consts.specs.Refusal.{number, outOfReach, badLatitude, badCircle, halfEmpty}
 use Rattle.consts.specs.Answer.{noUnder}
 use Rattle.consts.specs.Reading.{inReach}
+use Rattle.s1.specs.Circle as circle
 use Rattle.s2.specs.declared.latlng.LatLng.{LatLng}
 use Rattle.s2.specs.declared.rect.Rect.{Rect}
 use Rattle.s2.specs.declared.rect.Answer.{Answer}
@@ -24,9 +26,26 @@ beyond r = not (rectInReach r)
 abbrev pub faulty : Rect → Bool
 faulty r = rectInReach r && not (zone.isValid r)
 
+-- why it is not valid, each where none before it is so: "latitude over its range"; "circle interval not valid"; "one part empty, the other not"
+abbrev pub overLatitude : Rect → Bool
+overLatitude r = rectInReach r && not (zone.validLatitudes (r .lat))
+
+abbrev pub wrongCircle : Rect → Bool
+wrongCircle r = rectInReach r && (zone.validLatitudes (r .lat) && not (circle.isValid (r .lng)))
+
+abbrev pub unlikeParts : Rect → Bool
+unlikeParts r = rectInReach r && (zone.validLatitudes (r .lat) && (circle.isValid (r .lng) && not (zone.likeParts r)))
+
 -- neither
 abbrev pub sound : Rect → Bool
 sound r = rectInReach r && zone.isValid r
+
+-- the numbers that a rectangle is refused with, each with its reason
+pub data RectReason : ℕ → (Rect → Bool) → Type 0 where
+  of-reach : RectReason (number outOfReach) beyond
+  of-latitudes : RectReason (number badLatitude) overLatitude
+  of-circle : RectReason (number badCircle) wrongCircle
+  of-parts : RectReason (number halfEmpty) unlikeParts
 
 -- margins, sizes or errors are in reach
 abbrev pub marginsInReach : LatLng → Bool

@@ -50,12 +50,16 @@ isLatLng p = latitude (p .lat) && onCircle (p .lng)
 abbrev pub validLatitudes : Line → Bool
 validLatitudes i = latitude (i .lo) && Ieee.le (i .hi) NORTH
 
--- both parts are empty, or neither is
+-- of two tests both hold, or neither does
 abbrev pub alike : Bool → Bool → Bool
 alike a b = cond a b (not b)
 
+-- both parts are empty, or neither is
+abbrev pub likeParts : Rect → Bool
+likeParts r = alike (line.isEmpty (r .lat)) (circle.isEmpty (r .lng))
+
 unfoldable pub isValid : Rect → Bool
-isValid r = validLatitudes (r .lat) && circle.isValid (r .lng) && alike (line.isEmpty (r .lat)) (circle.isEmpty (r .lng))
+isValid r = validLatitudes (r .lat) && circle.isValid (r .lng) && likeParts r
 
 -- ---- made from points
 -- a single point, with the seam written PI

@@ -9,15 +9,15 @@ use consts::ACCEPTED;
 use consts::BAD_MARGIN;
 use consts::BAD_POINT;
 use consts::NEG_PI;
-use consts::NOT_VALID;
 use consts::OUT_OF_REACH;
 use consts::PI;
 use r1::interval::Interval as Line;
+use s1::circle;
 use s1::interval::Interval as Circle;
 ghost use mathlib.Core.Path.{_≡_};
 ghost use Rattle.consts.specs.Refusal.{firstRefusal};
 ghost use Rattle.s2.specs.Devices.{usual};
-ghost use Rattle.s2.specs.Reading.{rectInReach, asRead, readOne, readTwo, readPoint, readMargins, readWithPoint, readWithMargins};
+ghost use Rattle.s2.specs.Reading.{rectInReach, asRead, faultOf, readOne, readTwo, readPoint, readMargins, readWithPoint, readWithMargins};
 
 // A rectangle as it is read.
 pub struct One {
@@ -69,6 +69,16 @@ fn is_usual(r: Rect) -> bool
         & (r.lng.hi <= PI)
 }
 
+// Why a rectangle whose numbers are in reach is not valid, or 0.
+fn fault_of(r: Rect) -> u8
+    ensures { λ n. ⌜ n ≡ faultOf r ⌝ }
+{
+    let latitudes = zone::has_latitudes(r);
+    let circle = circle::is_valid(r.lng);
+    let parts = zone::has_like_parts(r);
+    consts::first_fault(latitudes, circle, parts)
+}
+
 // Why a rectangle is refused, or 0. A valid one is in reach but perhaps for its lat.hi, which has no
 // least value: the others are tested only where it is not valid.
 fn refusal_of(r: Rect) -> u8
@@ -78,7 +88,7 @@ fn refusal_of(r: Rect) -> u8
         return ACCEPTED;
     }
     if in_reach(r) {
-        return NOT_VALID;
+        return fault_of(r);
     }
     OUT_OF_REACH
 }
@@ -132,7 +142,8 @@ fn two_refusal(r: Rect, o: Rect) -> u8
 // Reads a rectangle: every operation on one comes through here, or through the next.
 // Laws: Readings.one-in, Readings.one-out, Readings.one-not-valid, Readings.valid-reach;
 // Places.from-read, Places.to-read.
-// Ruled out: of [0, 2] by {0}: under 0; of [0, DF40000000000000] by EMPTY: under 2 (it is 1).
+// Ruled out: of [0, 2] by {0}: under 0; of [0, DF40000000000000] by EMPTY: under
+// 23 (it is 1); of [0, 2] by [-PI, 0]: under 22 (it is 21); of [1, 0] by [-PI, 0]: under 23 (it is 22).
 pub fn read_one(r: Rect) -> One
     ensures { λ x. ⌜ x ≡ readOne r ⌝ }
 {
@@ -142,9 +153,9 @@ pub fn read_one(r: Rect) -> One
 }
 
 // Reads two rectangles, the left one first.
-// Laws: Readings.two-in, Promises.both-out-of-reach, Promises.both-not-valid.
+// Laws: Readings.two-in, Promises.both-refused.
 // Ruled out: of [0, 1] by {0} and [0, 1] by {1}: the second on the left; of [0, 2] by {0} and [NaN,
-// 1] by {0}: under 1 (the left one decides: 2).
+// 1] by {0}: under 1 (the left one decides: 21).
 pub fn read_two(r: Rect, o: Rect) -> Two
     ensures { λ x. ⌜ x ≡ readTwo r o ⌝ }
 {
@@ -197,7 +208,7 @@ pub fn read_margins(m: LatLng) -> Pair
 }
 
 // Reads a rectangle, then a point.
-// Laws: Readings.with-point-in, Promises.with-point-not-valid, Promises.with-point-bad-point.
+// Laws: Readings.with-point-in, Promises.with-point-refused, Promises.with-point-bad-point.
 // Ruled out: of [0, 1] by {0} and the point 2, 0: under 0; of [0, 2] by {0} and that point: under
 // 3.
 pub fn read_with_point(r: Rect, p: LatLng) -> With

@@ -435,7 +435,7 @@ impl Rect {
     // Returns the rectangle expanded so that it contains the given point. A bad point changes nothing:
     // the rectangle comes back as it was handed in.
     // Laws: Places.add-holds, Places.add-refused; Numbers.add-edges; Valid.add-valid;
-    // Differences.add-out, Differences.add-not-valid.
+    // Differences.add-start-refused.
     // Ruled out: of [0, 1] by [0, 1] and the point 0, 2: the start; of the standard empty and the
     // point 0, -PI: {0} by [-PI, -PI].
     pub fn add(self, p: LatLng) -> Answer

@@ -16,7 +16,7 @@ use r1::line;
 use s1::circle;
 use s1::interval::Interval as Circle;
 ghost use mathlib.Core.Path.{_≡_};
-ghost use Rattle.s2.specs.Zone.{EMPTY, latitude, isLatLng, alike, isValid, fromLatLng, fromPointPair, isEmpty, isFull, isPoint, isInverted, vertex, center, size, polarClosure, expanded, fromCenterSize, containsLatLng, interiorContainsLatLng, add, contains, interiorContains, intersects, interiorIntersects, union, intersection, approxEqBy, eq};
+ghost use Rattle.s2.specs.Zone.{EMPTY, latitude, isLatLng, validLatitudes, alike, likeParts, isValid, fromLatLng, fromPointPair, isEmpty, isFull, isPoint, isInverted, vertex, center, size, polarClosure, expanded, fromCenterSize, containsLatLng, interiorContainsLatLng, add, contains, interiorContains, intersects, interiorIntersects, union, intersection, approxEqBy, eq};
 
 // Whether a latitude lies from pole to pole.
 fn is_latitude(x: f64) -> bool
@@ -39,14 +39,26 @@ fn agree(a: bool, b: bool) -> bool
     if a { b } else { !b }
 }
 
+// Whether lat.lo lies from pole to pole and lat.hi is not above the pole: the first of the three tests of
+// validity.
+pub(crate) fn has_latitudes(r: Rect) -> bool
+    ensures { λ b. ⌜ b ≡ validLatitudes (r .lat) ⌝ }
+{
+    is_latitude(r.lat.lo) & (r.lat.hi <= NORTH_POLE_LAT)
+}
+
+// Whether both parts are empty or neither is: the last of them.
+pub(crate) fn has_like_parts(r: Rect) -> bool
+    ensures { λ b. ⌜ b ≡ likeParts r ⌝ }
+{
+    agree(line::is_empty(r.lat), circle::is_empty(r.lng))
+}
+
 // Does the work of Rect::is_valid on operands that have been read.
 pub fn is_valid(r: Rect) -> bool
     ensures { λ b. ⌜ b ≡ isValid r ⌝ }
 {
-    is_latitude(r.lat.lo)
-        & (r.lat.hi <= NORTH_POLE_LAT)
-        & circle::is_valid(r.lng)
-        & agree(line::is_empty(r.lat), circle::is_empty(r.lng))
+    has_latitudes(r) & circle::is_valid(r.lng) & has_like_parts(r)
 }
 
 // Does the work of Rect::from_latlng on operands that have been read.

@@ -8,25 +8,25 @@ use mathlib.Core.Logic.{_⊎_, inl, inr}
 use Prim.Native.Nat.{ℕ}
 use borrow.Author.Tests.{eq-eqb, ne-eqb}
 use lib.Ieee.{Float}
-use Rattle.consts.specs.Refusal.{number, accepted, outOfReach, notValid, badPoint, badList, firstRefusal}
+use Rattle.consts.specs.Refusal.{number, accepted, badPoint, badList, firstRefusal}
 use Rattle.s2.specs.declared.latlng.LatLng.{LatLng}
 use Rattle.s2.specs.declared.rect.Rect.{Rect}
 use Rattle.s2.specs.declared.rect.Answer.{Answer}
-use Rattle.s2.specs.Zone.{isValid, isLatLng}
-use Rattle.s2.specs.Reading.{rectInReach, asRead, NoMinusRect}
+use Rattle.s2.specs.Zone.{isLatLng}
+use Rattle.s2.specs.Reading.{asRead, NoMinusRect}
 use Rattle.s2.specs.Answers.{rectAnswer, emptyUnder, add}
 use Rattle.s2.specs.Places.{Valid, ValidPoint}
-use Rattle.s2.proofs.Readings.{one-in, one-out, one-not-valid, point-bad}
+use Rattle.s2.proofs.Readings.{one-in, point-bad}
 use Rattle.s2.proofs.Accepted.{add-is}
 use Rattle.s2.proofs.Valid.{add-valid}
 use Rattle.s2.proofs.Places.{add-refused}
 use Rattle.entries.specs.Lists.{Mem, All, wholeLength, whole}
 use Rattle.entries.specs.First.{firstNumber}
 use Rattle.lists.specs.Points.{pointsOf}
-use Rattle.lists.specs.Refused.{firstBad}
+use Rattle.lists.specs.Refused.{ofRect, firstBad}
 use Rattle.lists.proofs.Doubles.{Doubles, DoublePoint, point-of, bad-among, points-decided}
 use Rattle.growth.specs.Growth.{under, grownAll, grow}
-use Rattle.growth.proofs.Laws.{number-in, add-read, one-point, Accepted, accepted-is, IsGrown, bad-list, start-out, start-bad, point-is-bad, all-good, is-add, accepted-exactly, Grown, growth-holds, growth-plain}
+use Rattle.growth.proofs.Laws.{number-in, add-read, one-point, Accepted, accepted-is, IsGrown, bad-list, start-bad, point-is-bad, all-good, is-add, accepted-exactly, Grown, growth-holds, growth-plain}
 use Rattle.scan.specs.Scan.{enlarge, enlargeAll, scannedFrom, handedBack, scannedByPoints, scan}
 
 -- ---- the scan worker
@@ -69,14 +69,10 @@ pub scan-list-bad : (b : Rect) (l : List Float) → whole 2 4096 l ≡ false →
 unfolding scan
 scan-list-bad b l w = simp w
 
--- then the start's 1 or 2, with the standard empty, whatever the points are, and by no point too
-pub scan-start-out : (b : Rect) (l : List Float) → whole 2 4096 l ≡ true → rectInReach b ≡ false → scan b l ≡ emptyUnder (number outOfReach)
+-- then the start's own number, with the standard empty, whatever the points are, and by no point too
+pub scan-start-refused : (b : Rect) (l : List Float) → whole 2 4096 l ≡ true → (ofRect b ≡ 0 → ⊥) → scan b l ≡ emptyUnder (ofRect b)
 unfolding scan scannedByPoints
-scan-start-out b l w h = simp (w, one-out b h)
-
-pub scan-start-not-valid : (b : Rect) (l : List Float) → whole 2 4096 l ≡ true → rectInReach b ≡ true → isValid b ≡ false → scan b l ≡ emptyUnder (number notValid)
-unfolding scan scannedByPoints
-scan-start-not-valid b l w k h = simp (w, one-not-valid b k h)
+scan-start-refused b l w h = simp (w, ne-eqb (ofRect b) 0 h)
 
 -- a valid start is enlarged by the points one by one
 scan-valid : (b : Rect) (l : List Float) → whole 2 4096 l ≡ true → Valid b → scan b l ≡ handedBack (scannedFrom 0 b (pointsOf l))
@@ -157,8 +153,7 @@ module _ (b : Rect) (l : List Float) (d : Doubles b) (e : All DoublePoint (point
     where
       go : (a : Answer) → grow b l ≡ a → IsGrown b l a → (scan b l ≡ grow b l) ⊎ ((scan b l .refusal ≡ 3) × (grow b l .refusal ≡ 3))
       go _ q (bad-list w) = inl (scan-list-bad b l w ∙ sym q)
-      go _ q (start-out w k) = inl (scan-start-out b l w k ∙ sym q)
-      go _ q (start-bad w k v) = inl (scan-start-not-valid b l w k v ∙ sym q)
+      go _ q (start-bad w h) = inl (scan-start-refused b l w h ∙ sym q)
       go _ q (point-is-bad w v p m h) = inr (scan-bad b l e w v (bad-among m h) .0, ap (λ (x : Answer). x .refusal) q)
       go _ q (all-good a) = inl (scan-grows b l a)
 

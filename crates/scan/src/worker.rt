@@ -28,7 +28,7 @@ fn grow_point(r: Rect, lat: f64, lng: f64) -> Answer
 // Enlarges the running box by a point, and answers growth's number.
 // Laws: Laws.scan-refused, Laws.scan-accepted.
 // Ruled out: of [0, 1] by [0, 1] and the point 0.5, 2: 0, and the box as it was; of [0, 2] by {0},
-// which is not valid, and a point: 2, and the standard empty in the box.
+// which is not valid, and a point: 21, and the standard empty in the box.
 pub fn enlarge(b: &mut Rect, lat: f64, lng: f64) -> u8
     ensures { λ n. ⌜ (n ≡ enlarge (now (b .entry)) (at lat lng) .refusal) × (now (b .exit) ≡ enlarge (now (b .entry)) (at lat lng) .value) ⌝ }
 {
@@ -84,9 +84,9 @@ fn scan_points(start: Rect, points: &[f64]) -> Answer
 }
 
 // The same for any start and any list: first the length is looked at, then the start is read, with no
-// point too, and 1 or 2 answer the standard empty. A bad point is passed over, and beside its 3 the box is
+// point too, and its own refusals answer the standard empty. A bad point is passed over, and beside its 3 the box is
 // handed back as it is; under 0 it has its zeros read. Beside growth: scan-grows, scan-agrees.
-// Laws: Laws.scan-list-bad, Laws.scan-start-out, Laws.scan-start-not-valid, Laws.scan-nothing,
+// Laws: Laws.scan-list-bad, Laws.scan-start-refused, Laws.scan-nothing,
 // Laws.scan-grows, Laws.scan-number, Laws.scan-agrees, Laws.scan-holds, Laws.scan-plain,
 // Laws.scan-passes, Laws.scan-running, Laws.scan-keeps.
 // Ruled out: of the latitudes [NaN, 1] and no point: 0, and the NaN (it is 1, and the standard

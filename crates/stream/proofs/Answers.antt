@@ -1,14 +1,16 @@
 -- What a stream without a fault hands to `common_region` is accepted, and its pieces fit: so the text is that of the common region. Each law is by the
 -- definition's own cases. Assumes nothing.
 use mathlib.Core.Path.{_≡_, refl, sym, ap, _∙_, subst}
-use mathlib.Core.Bool.{true}
+use mathlib.Core.Bool.{true, false}
 use mathlib.Core.List.{List}
-use Prim.Native.Nat.{ℕ, zero, suc, _*_, _%_, _<_}
+use Prim.Native.Nat.{ℕ, zero, suc, _*_, _%_, _≤_, _<_}
 use native.Mathlib.Omega.{arith}
-use borrow.Author.Tests.{le-leb, eq-eqb, ne-eqb}
+use borrow.Author.Tests.{lt-ltb, le-leb, eq-eqb, ne-eqb}
+use lib.Dec.{ltb}
 use lib.ListN.{length, take, drop}
 use lib.Ieee.{Float}
 use Rattle.order.proofs.Ranks.{and-of}
+use Rattle.consts.specs.Refusal.{ofEntry}
 use Rattle.s2.specs.declared.rect.Rect.{Rect}
 use Rattle.s2.specs.Places.{Valid}
 use Rattle.s2.proofs.Readings.{valid-read}
@@ -23,10 +25,10 @@ use Rattle.region.specs.declared.region.Pieces.{Pieces}
 use Rattle.region.specs.Answers.{piecesOf, Promised}
 use Rattle.region.proofs.Listings.{IsListed, listing as region-listing}
 use Rattle.text.specs.Answers as text
-use Rattle.text.specs.Text.{refusedText}
+use Rattle.text.specs.Text.{refusedText, refusedAtText}
 use Rattle.stream.specs.declared.gather.Gathered.{Gathered}
 use Rattle.stream.specs.Stream.{Stream, Numbers, Fault, RECORDS, toStream, streamOf}
-use Rattle.stream.specs.Answers.{regionText, textOf, answerText}
+use Rattle.stream.specs.Answers.{regionText, faultText, textOf, answerText}
 use Rattle.stream.specs.Inside.{IsGathered, Taken}
 use Rattle.record.proofs.Records.{taken-valid}
 
@@ -37,7 +39,7 @@ valid-items (suc n) s h = (valid-read (taken-valid s (h 0 (omega arith) .1)), va
 
 abbrev Sound : Stream → Type 0
 Sound (Numbers l) = Taken l
-Sound (Fault n) = Unit
+Sound (Fault n k) = Unit
 
 sound : (s : List ℕ) (x : Input Rect) → inputOf RECORDS s ≡ x → Sound (toStream x)
 unfolding wholeLength
@@ -78,13 +80,44 @@ module _ (l : List Float) (n : ℕ) (o : List Float) (i : IsListed l n o) where
 pub numbers-are : (s : List ℕ) (g : Gathered) (l : List Float) → IsGathered s g l → g .refusal ≡ 0 → streamOf s ≡ Numbers (take (4 * g .count) l)
 numbers-are s g l i e = i .is ∙ simp (eq-eqb (g .refusal) 0 e)
 
-pub fault-is : (s : List ℕ) (g : Gathered) (l : List Float) → IsGathered s g l → (g .refusal ≡ 0 → ⊥) → streamOf s ≡ Fault (g .refusal)
+pub fault-is : (s : List ℕ) (g : Gathered) (l : List Float) → IsGathered s g l → (g .refusal ≡ 0 → ⊥) → streamOf s ≡ Fault (g .refusal) (g .count)
 fault-is s g l i h = i .is ∙ simp (ne-eqb (g .refusal) 0 h)
 
 pub text-listed : (s : List ℕ) (l : List Float) → streamOf s ≡ Numbers l → regionText l ≡ answerText s
 unfolding answerText textOf
 text-listed s l e = sym (ap textOf e)
 
-pub text-refused : (s : List ℕ) (n : ℕ) → streamOf s ≡ Fault n → refusedText n ≡ answerText s
+pub text-refused : (s : List ℕ) (n k : ℕ) → streamOf s ≡ Fault n k → faultText n k ≡ answerText s
 unfolding answerText textOf
-text-refused s n e = sym (ap textOf e)
+text-refused s n k e = sym (ap textOf e)
+
+-- a rectangle's number stands with its entry, and any other by itself
+pub told-at : (n k : ℕ) → ofEntry n ≡ true → faultText n k ≡ refusedAtText n k
+unfolding faultText
+told-at n k h = simp h
+
+pub told-alone : (n k : ℕ) → ofEntry n ≡ false → faultText n k ≡ refusedText n
+unfolding faultText
+told-alone n k h = simp h
+
+-- and so it is written, where it is one of the records that are taken or the one after them
+module _ (n k : ℕ) (h : k ≤ 512) (e : ofEntry n ≡ true) where
+  few : ltb k 1000 ≡ true
+  few = lt-ltb k 1000 (omega arith)
+
+  pub wrote-at : (room : ℕ) → text.wroteRefusalAt n k room ≡ text.wrote (faultText n k) room
+  unfolding text.wroteRefusalAt
+  wrote-at room = rw (few, told-at n k e) refl
+
+  pub left-at : (out : List ℕ) → text.leftRefusalAt n k out ≡ text.left (faultText n k) out
+  unfolding text.leftRefusalAt
+  left-at out = rw (few, told-at n k e) refl
+
+module _ (n k : ℕ) (e : ofEntry n ≡ false) where
+  pub wrote-alone : (room : ℕ) → text.wroteRefusal n room ≡ text.wrote (faultText n k) room
+  unfolding text.wroteRefusal
+  wrote-alone room = rw (told-alone n k e) refl
+
+  pub left-alone : (out : List ℕ) → text.leftRefusal n out ≡ text.left (faultText n k) out
+  unfolding text.leftRefusal
+  left-alone out = rw (told-alone n k e) refl

@@ -29,7 +29,7 @@ use Rattle.lists.specs.Rects.{numbersOf}
 use Rattle.text.specs.Text.{piecesText, refusedText}
 use Rattle.record.specs.Records.{wordAt, doubleAt, wholeRecord, rectOf, numberOf}
 use Rattle.stream.specs.Bytes.{littleEndian, doubleBytes, recordBytes, streamBytes}
-use Rattle.stream.specs.Answers.{answerText}
+use Rattle.stream.specs.Answers.{faultText, answerText}
 use Rattle.record.proofs.Records.{whole-long, whole-mark, taken-whole, taken-valid}
 use Rattle.stream.proofs.Laws.{Answers, common-answer, first-fault, one-too-many, no-record}
 use Rattle.stream.proofs.Settled.{settled}
@@ -193,8 +193,8 @@ every-stream s a = is-stream 512 s a
 pub data IsAnswer (s t : List ℕ) : Type 0 where
   -- up to 512 records of valid rectangles: their common region
   pieces : (rs : List Rect) → All Valid rs → length rs ≤ 512 → s ≡ streamBytes rs → Answers rs t → IsAnswer s t
-  -- the first fault decides: after fewer than 512 of them the number of the record that follows
-  first-refused : (rs : List Rect) (u : List ℕ) → All Valid rs → length rs < 512 → 0 < length u → (numberOf u ≡ number accepted → ⊥) → s ≡ streamBytes rs ++ u → t ≡ refusedText (numberOf u) → IsAnswer s t
+  -- the first fault decides: after fewer than 512 of them the number of the record that follows, a rectangle's with the entry that it is, counted from zero
+  first-refused : (rs : List Rect) (u : List ℕ) → All Valid rs → length rs < 512 → 0 < length u → (numberOf u ≡ number accepted → ⊥) → s ≡ streamBytes rs ++ u → t ≡ faultText (numberOf u) (length rs) → IsAnswer s t
   -- a 513th whole record with a right mark gives 5, and what is no record there 7
   too-many : (rs : List Rect) (u : List ℕ) → All Valid rs → length rs ≡ 512 → 0 < length u → wholeRecord u ≡ true → s ≡ streamBytes rs ++ u → t ≡ refusedText (number badList) → IsAnswer s t
   no-more : (rs : List Rect) (u : List ℕ) → All Valid rs → length rs ≡ 512 → 0 < length u → wholeRecord u ≡ false → s ≡ streamBytes rs ++ u → t ≡ refusedText (number badRecord) → IsAnswer s t

@@ -12,7 +12,7 @@ use lib.Ieee.{Float, binary64, fits}
 use Rattle.order.proofs.Ranks.{and-of}
 use Rattle.bits.specs.Pattern.{ofPattern, toPattern}
 use Rattle.bits.proofs.RoundTrip.{read-written, pattern-lt}
-use Rattle.consts.specs.Refusal.{number, accepted, badList, badRecord}
+use Rattle.consts.specs.Refusal.{number, accepted, badList, badRecord, ofEntry}
 use Rattle.s2.specs.declared.rect.Rect.{Rect}
 use Rattle.s2.specs.Places.{Valid}
 use Rattle.s2.specs.Reading.{asRead}
@@ -30,9 +30,10 @@ use Rattle.text.specs.Text.{piecesText, refusedText}
 use Rattle.record.specs.Records.{isMark, joined, wordAt, doubleAt, wholeRecord, rectOf, numberOf}
 use Rattle.stream.specs.Bytes.{littleEndian, doubleBytes, recordBytes, streamBytes}
 use Rattle.stream.specs.Stream.{Numbers, overNumber, RECORDS, toStream, streamOf}
-use Rattle.stream.specs.Answers.{regionText, textOf, answerText}
+use Rattle.stream.specs.Answers.{regionText, faultText, textOf, answerText}
 use Rattle.record.proofs.Records.{whole-number}
 use Rattle.stream.proofs.Streams.{over-whole, over-other}
+use Rattle.stream.proofs.Answers.{told-alone}
 
 -- ---- a word's bytes
 joined-bytes : (w : ℕ) → w < 2 ^ 64 →
@@ -119,19 +120,19 @@ common-answer rs v h =
 
 -- after fewer than 512 valid rectangles the first record that is refused decides, whatever follows it
 pub first-fault : (rs : List Rect) → All Valid rs → length rs < 512 → (t : List ℕ) → 0 < length t → (numberOf t ≡ number accepted → ⊥) →
-    answerText (streamBytes rs ++ t) ≡ refusedText (numberOf t)
+    answerText (streamBytes rs ++ t) ≡ faultText (numberOf t) (length rs)
 unfolding answerText textOf streamOf streamBytes
 first-fault rs v h t k e = ap (λ (x : Input Rect). textOf (toStream x)) (then-fault RECORDS Valid recordBytes asRead reads rs v h t k e)
 
 -- after 512 a whole record is one too many, whatever its numbers; anything else is no record
-past : (rs : List Rect) → All Valid rs → length rs ≡ 512 → (t : List ℕ) → 0 < length t → answerText (streamBytes rs ++ t) ≡ refusedText (overNumber t)
+past : (rs : List Rect) → All Valid rs → length rs ≡ 512 → (t : List ℕ) → 0 < length t → answerText (streamBytes rs ++ t) ≡ faultText (overNumber t) (length rs)
 unfolding answerText textOf streamOf streamBytes
 past rs v h t k = ap (λ (x : Input Rect). textOf (toStream x)) (then-over RECORDS Valid recordBytes asRead reads rs v h t k)
 
 pub one-too-many : (rs : List Rect) → All Valid rs → length rs ≡ 512 → (t : List ℕ) → 0 < length t → wholeRecord t ≡ true →
     answerText (streamBytes rs ++ t) ≡ refusedText (number badList)
-one-too-many rs v h t k w = past rs v h t k ∙ ap refusedText (sym (over-whole t w))
+one-too-many rs v h t k w = past rs v h t k ∙ ap (λ (n : ℕ). faultText n (length rs)) (sym (over-whole t w)) ∙ told-alone 5 (length rs) (unfold ofEntry in refl)
 
 pub no-record : (rs : List Rect) → All Valid rs → length rs ≡ 512 → (t : List ℕ) → 0 < length t → wholeRecord t ≡ false →
     answerText (streamBytes rs ++ t) ≡ refusedText (number badRecord)
-no-record rs v h t k w = past rs v h t k ∙ ap refusedText (sym (over-other t w))
+no-record rs v h t k w = past rs v h t k ∙ ap (λ (n : ℕ). faultText n (length rs)) (sym (over-other t w)) ∙ told-alone 7 (length rs) (unfold ofEntry in refl)

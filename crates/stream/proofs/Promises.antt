@@ -1,7 +1,7 @@
 -- What document 01 promises of the program `common` and its stream, in its order and words, each as one theorem with all that it asks in its own signature. Each is a
 -- law of the modules beside this one. Assumes nothing.
-use mathlib.Core.Path.{_≡_, refl, sym, ap, _∙_}
-use mathlib.Core.Bool.{Bool, true, false, cond}
+use mathlib.Core.Path.{_≡_, refl, sym, ap, _∙_, subst}
+use mathlib.Core.Bool.{Bool, true, false, false≢true}
 use mathlib.Core.List.{List, [], _∷_, _++_}
 use mathlib.Core.Logic.{_⊎_, inl, inr, _↔_}
 use Prim.Native.Nat.{ℕ, _≤_, _<_}
@@ -10,23 +10,23 @@ use borrow.Author.Tests.{leb-false}
 use lib.Dec.{leb}
 use lib.ListN.{length, take, getD}
 use lib.Ieee.{Float}
-use Rattle.consts.specs.Refusal.{number, accepted, outOfReach, notValid, badList, badRecord}
+use Rattle.consts.specs.Refusal.{number, accepted, badList, badRecord, ofEntry}
 use Rattle.s2.specs.declared.rect.Rect.{Rect}
-use Rattle.s2.specs.Zone.{isValid}
-use Rattle.s2.specs.Reading.{rectInReach, asRead, readOne}
+use Rattle.s2.specs.Reading.{asRead, readOne}
+use Rattle.s2.proofs.Refusals.{never}
 use Rattle.s2.specs.Places.{Valid}
 use Rattle.s2.specs.Reading.{NoMinusRect}
 use Rattle.entries.specs.Lists.{All}
 use Rattle.lists.specs.Rects.{numbersOf, asReadAll}
 use Rattle.region.specs.Answers.{piecesOf}
 use Rattle.region.proofs.Listed.{listed-is}
-use Rattle.text.specs.Text.{refusedText}
+use Rattle.text.specs.Text.{refusedText, refusedAtText}
 use Rattle.record.specs.declared.record.Record.{Record}
 use Rattle.record.specs.declared.record.Record.the-variants.{Rectangle, Refused}
 use Rattle.record.specs.Records.{isMark, wholeRecord, rectOf, numberOf, recordNumber, recordValues, IsRecord}
 use Rattle.stream.specs.Bytes.{recordBytes, streamBytes}
 use Rattle.stream.specs.Stream.{Numbers, streamOf}
-use Rattle.stream.specs.Answers.{answerText}
+use Rattle.stream.specs.Answers.{faultText, answerText}
 use Rattle.record.proofs.Records as records
 use Rattle.record.proofs.Records.{Plain}
 use Rattle.stream.proofs.Answers as answers
@@ -76,13 +76,7 @@ one-record s x y p q = records.one-record s x y p q
 
 -- ---- 7, "wrong mark or short record", given exactly when
 read-number : (r : Rect) → readOne r .refusal ≡ number badRecord → ⊥
-unfolding readOne
-read-number r = go (rectInReach r) (isValid r)
-  where
-    go : (a b : Bool) → cond a (cond b (number accepted) (number notValid)) (number outOfReach) ≡ number badRecord → ⊥
-    go true true e = omega arith
-    go true false e = omega arith
-    go false b e = omega arith
+read-number r = never r 7 (unfold ofEntry in refl)
 
 pub bad-record : (s : List ℕ) → (numberOf s ≡ number badRecord) ↔ ((length s < 34) ⊎ (isMark (getD s 0 0) (getD s 1 0) ≡ false))
 unfolding wholeRecord
@@ -97,14 +91,30 @@ bad-record s = ((λ h. there (leb 34 (length s)) (isMark (getD s 0 0) (getD s 1 
     back (inl h) = records.short-refused s h
     back (inr h) = records.mark-refused s h
 
--- a whole one is refused as every operation refuses its rectangle: 1 before 2
+-- a whole one is refused as every operation refuses its rectangle: 1, 21, 22, 23
 pub as-its-rectangle : (s : List ℕ) → wholeRecord s ≡ true → numberOf s ≡ readOne (rectOf s) .refusal
 as-its-rectangle s h = records.whole-number s h
 
 -- ---- "The first fault in the stream decides": after fewer than 512 valid rectangles, whatever follows it
 pub first-fault-decides : (rs : List Rect) → All Valid rs → length rs < 512 → (t : List ℕ) → 0 < length t → (numberOf t ≡ number accepted → ⊥) →
-    answerText (streamBytes rs ++ t) ≡ refusedText (numberOf t)
+    answerText (streamBytes rs ++ t) ≡ faultText (numberOf t) (length rs)
 first-fault-decides rs v h t k e = laws.first-fault rs v h t k e
+
+-- "`common` prints `refused 22 at 17`": the entry's number stands beside 1, 21, 22 and 23, as many records as stand before it; 7 stands alone
+pub with-its-entry : (rs : List Rect) → All Valid rs → length rs < 512 → (t : List ℕ) → 0 < length t → ofEntry (numberOf t) ≡ true →
+    answerText (streamBytes rs ++ t) ≡ refusedAtText (numberOf t) (length rs)
+with-its-entry rs v h t k e = laws.first-fault rs v h t k (λ z. none (subst (λ (n : ℕ). ofEntry n ≡ true) z e)) ∙ answers.told-at (numberOf t) (length rs) e
+  where
+    none : ofEntry 0 ≡ true → ⊥
+    none q = false≢true (unfold ofEntry in q)
+
+pub without-entry : (rs : List Rect) → All Valid rs → length rs < 512 → (t : List ℕ) → 0 < length t → numberOf t ≡ number badRecord →
+    answerText (streamBytes rs ++ t) ≡ refusedText (number badRecord)
+without-entry rs v h t k e =
+    laws.first-fault rs v h t k (λ z. seven (sym e ∙ z)) ∙ ap (λ (n : ℕ). faultText n (length rs)) e ∙ answers.told-alone 7 (length rs) (unfold ofEntry in refl)
+  where
+    seven : _≡_ {A = ℕ} 7 0 → ⊥
+    seven q = omega (arith, q)
 
 -- "a 513th whole record with a right mark gives 5", whatever its numbers; what is no record there gives 7
 pub one-too-many : (rs : List Rect) → All Valid rs → length rs ≡ 512 → (t : List ℕ) → 0 < length t → wholeRecord t ≡ true →

@@ -104,14 +104,14 @@ module _ (s : List ℕ) (l : List Float) (k : ℕ) (held : Held s l k) where
       fours k = omega arith
 
   -- a fault
-  pub bad : (x : Record) (n m : ℕ) → k < 512 → 34 * k < length s → IsRead x s k → x ≡ Refused n → m ≡ recordNumber x → streamOf s ≡ gathered (record { refusal = m; count = 0 }) l
+  pub bad : (x : Record) (n m : ℕ) → k < 512 → 34 * k < length s → IsRead x s k → x ≡ Refused n → m ≡ recordNumber x → streamOf s ≡ gathered (record { refusal = m; count = k }) l
   unfolding streamOf
   bad x n m h at is case number-so =
       let t : List ℕ = drop (34 * k) s in
       let i = is-read x s k is in
       let z = is-refused t x n i case in
       ap toStream (reading.bad RECORDS s (held .rects) t (held .rest) (omega (arith, held .many)) (left-some at) z)
-      ∙ sym (rw (number-so ∙ i .number-is, ne-eqb (numberOf t) 0 z) refl)
+      ∙ ap (Fault (numberOf t)) (held .many) ∙ sym (rw (number-so ∙ i .number-is, ne-eqb (numberOf t) 0 z) refl)
 
   -- nothing is left
   pub stops : length s ≤ 34 * k → streamOf s ≡ gathered (record { refusal = 0; count = k }) l
@@ -121,9 +121,9 @@ module _ (s : List ℕ) (l : List Float) (k : ℕ) (held : Held s l k) where
       ∙ ap Numbers (sym (held .are))
 
   -- 512 records are read
-  beyond : k ≡ 512 → 34 * k < length s → streamOf s ≡ Fault (overNumber (drop (34 * k) s))
+  beyond : k ≡ 512 → 34 * k < length s → streamOf s ≡ Fault (overNumber (drop (34 * k) s)) k
   unfolding streamOf
-  beyond e h = ap toStream (reading.over RECORDS s (held .rects) (drop (34 * k) s) (held .rest) (held .many ∙ e) (left-some h))
+  beyond e h = ap toStream (reading.over RECORDS s (held .rects) (drop (34 * k) s) (held .rest) (held .many ∙ e) (left-some h)) ∙ ap (Fault (overNumber (drop (34 * k) s))) (held .many)
 
   pub full : k ≡ 512 → streamOf s ≡ gathered (endedWith k s) l
   unfolding endedWith

@@ -19,7 +19,7 @@ endedWith k s = record { refusal = cond (leb (length s) (34 * k)) (number accept
 
 -- what was gathered into the list l, as a stream
 abbrev pub gathered : Gathered → List Float → Stream
-gathered g l = given (g .refusal) (Numbers (take (4 * g .count) l)) (Fault (g .refusal))
+gathered g l = given (g .refusal) (Numbers (take (4 * g .count) l)) (Fault (g .refusal) (g .count))
 
 pub record IsGathered (s : List ℕ) (g : Gathered) (l : List Float) : Type 0 where
   pub is : streamOf s ≡ gathered g l

@@ -16,8 +16,8 @@ use Rattle.record.specs.Records.{wholeRecord, rectOf, numberOf}
 pub data Stream : Type 0 where
   -- every record is a rectangle: lat.lo, lat.hi, lng.lo, lng.hi of each, as it is read
   Numbers : List Float → Stream
-  -- the first fault, by document 01's number
-  Fault : ℕ → Stream
+  -- the first fault: its number, and the record that it stands at, counted from zero
+  Fault : ℕ → ℕ → Stream
 
 -- what goes on after the last record that is taken: one too many where it is whole and has a right mark, whatever its numbers; else no record
 unfoldable pub overNumber : List ℕ → ℕ
@@ -29,7 +29,7 @@ RECORDS = record { number = numberOf; item = λ s. asRead (rectOf s); rest = dro
 
 abbrev pub toStream : Input Rect → Stream
 toStream (inputs.Items rs) = Numbers (numbersOf rs)
-toStream (inputs.Fault n k) = Fault n
+toStream (inputs.Fault n k) = Fault n k
 
 unfoldable pub streamOf : List ℕ → Stream
 streamOf s = toStream (inputOf RECORDS s)

@@ -14,7 +14,7 @@ ghost use lib.ListN.{length};
 ghost use Rattle.stream.specs.Stream.{overNumber};
 ghost use Rattle.stream.specs.Inside.{endedWith, IsGathered};
 
-// What was gathered: how many rectangles; none under a refusal.
+// What was gathered: how many rectangles; under a refusal, how many stand before the fault.
 pub(crate) struct Gathered {
     pub(crate) refusal: u8,
     pub(crate) count: usize,
@@ -49,7 +49,7 @@ pub(crate) fn gather(s: &[u8], list: &mut [f64]) -> Gathered
         let Record::Rectangle(r) = x else {
             return Gathered {
                 refusal: number_of(x),
-                count: 0,
+                count: k,
             };
         };
         put_rect(list, 4 * k, r);

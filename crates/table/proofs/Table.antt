@@ -8,7 +8,7 @@ use Rattle.order.specs.Choice.{min, max}
 use Rattle.consts.specs.Constants.{PI, NEG-PI, TWO}
 use Rattle.consts.specs.Answer.{ZERO}
 use Rattle.consts.specs.Reading.{inReach, plain, readNumber}
-use Rattle.consts.specs.Refusal.{firstRefusal}
+use Rattle.consts.specs.Refusal.{firstFault, firstRefusal}
 use Rattle.r1.specs.Line as line
 use Rattle.s1.specs.declared.interval.Interval.{Interval}
 use Rattle.s1.specs.Circle as circle
@@ -22,7 +22,7 @@ use Rattle.s2.specs.Reading as rects
 use Rattle.s2.specs.Answers.{rectAnswer, vertex, expanded}
 use Rattle.entries.specs.Lists.{wholeLength}
 use Rattle.lists.specs.Rects.{rectsOf, numbersOf, asReadAll}
-use Rattle.entries.specs.First.{firstNumber}
+use Rattle.entries.specs.First.{firstNumber, firstEntry}
 use Rattle.arcs.specs.CommonArcs as places
 use Rattle.arcs.specs.Clipping as pieces
 use Rattle.region.specs.Region as region
@@ -57,7 +57,7 @@ OriginExpanded = expanded origin (at TWO FOUR) ≡ rectAnswer rect.FULL
 
 origin-expanded : OriginExpanded
 unfolding
-    expanded rects.readWithMargins rects.readOne rects.readMargins rects.asRead rects.rectInReach readNumber firstRefusal inReach plain rect.isValid rect.latitude rect.expanded line.expanded line.isEmpty line.intersection circle.expanded isValid isEmpty isFull len min max ofBits lt le eq Ieee.add Ieee.sub Ieee.mul
+    expanded rects.readWithMargins rects.readOne rects.faultOf firstFault rects.readMargins rects.asRead rects.rectInReach readNumber firstRefusal inReach plain rect.latitude rect.expanded line.expanded line.isEmpty line.intersection circle.expanded isValid isEmpty isFull len min max ofBits lt le eq Ieee.add Ieee.sub Ieee.mul
 origin-expanded = refl
 
 -- common of [-1, 1] and [1, -1]: [-1, -1], [1, 1]
@@ -80,7 +80,7 @@ NearlyFull =
 
 common-regions : BothEnds × OverTheSeam × NearlyFull
 unfolding
-    answers.answer answers.left answers.refusalOf wholeLength firstNumber answers.piecesOf rectsOf numbersOf asReadAll region.region region.bandFrom region.lngs region.across pieces.common pieces.steps pieces.step pieces.whole pieces.clip pieces.endAt pieces.cut pieces.insert pieces.sooner pieces.before places.someHolds rects.readOne rects.rectInReach rects.asRead rect.isValid rect.latitude firstRefusal inReach plain line.isEmpty line.intersection isValid isEmpty isFull min max ofBits lt le eq
+    answers.answer answers.left answers.refusalOf answers.entryOf wholeLength firstNumber firstEntry answers.piecesOf rectsOf numbersOf asReadAll region.region region.bandFrom region.lngs region.across pieces.common pieces.steps pieces.step pieces.whole pieces.clip pieces.endAt pieces.cut pieces.insert pieces.sooner pieces.before places.someHolds rects.readOne rects.faultOf rects.rectInReach rects.asRead rect.latitude firstFault firstRefusal inReach plain line.isEmpty line.intersection isValid isEmpty isFull min max ofBits lt le eq
 common-regions = (record { answers = refl; leaves = refl }, record { answers = refl; leaves = refl }, record { answers = refl; leaves = refl })
 
 -- ---- the table

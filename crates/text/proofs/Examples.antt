@@ -5,7 +5,8 @@ use mathlib.Core.List.{List, [], _∷_, _++_}
 use Prim.Native.Nat.{ℕ}
 use lib.Ieee.{Float, binary64, ofBits, toBits, isNan}
 use Rattle.bits.specs.Pattern.{toPattern}
-use Rattle.text.specs.Text.{hexDigit, hex, numberText, wordText, lineText, linesText, decimalText, headText, PIECES, REFUSED, piecesText, refusedText, AT, refusedAtText}
+use Rattle.text.specs.Text.{hexDigit, hex, numberText, wordText, lineText, linesText, decimalText, headText, PIECES, REFUSED, piecesText, refusedText}
+use Rattle.text.specs.Text.{AT, refusedAtText, AT-LINE, refusedAtLineText}
 
 abbrev double : ℕ → Float
 double b = ofBits binary64 b
@@ -44,7 +45,12 @@ pub no-pieces : piecesText [] ≡ PIECES ++ (48 ∷ (10 ∷ []))
 unfolding piecesText headText decimalText linesText hexDigit
 no-pieces = refl
 
--- `refused 8 at 12` and a newline
-pub refused-at-twelve : refusedAtText 8 12 ≡ REFUSED ++ (56 ∷ (AT ++ (49 ∷ (50 ∷ (10 ∷ [])))))
+-- `refused 22 at 17` and a newline
+pub refused-at-seventeen : refusedAtText 22 17 ≡ REFUSED ++ (50 ∷ (50 ∷ (AT ++ (49 ∷ (55 ∷ (10 ∷ []))))))
 unfolding refusedAtText headText decimalText hexDigit
-refused-at-twelve = refl
+refused-at-seventeen = refl
+
+-- `refused 8 at line 12` and a newline
+pub refused-at-line-twelve : refusedAtLineText 8 12 ≡ REFUSED ++ (56 ∷ (AT-LINE ++ (49 ∷ (50 ∷ (10 ∷ [])))))
+unfolding refusedAtLineText headText decimalText hexDigit
+refused-at-line-twelve = refl

@@ -11,8 +11,8 @@ use lib.Seq.{take-append-seam, drop-append-seam}
 use lib.Ieee.{Float}
 use Rattle.consts.specs.Refusal.{number, accepted}
 use Rattle.entries.specs.Lists.{whole}
-use Rattle.text.specs.Text.{piecesText, refusedText, refusedAtText}
-use Rattle.text.specs.Answers.{wrote, left, wrotePieces, leftPieces, wroteRefusal, leftRefusal, wroteRefusalAt, leftRefusalAt, Stands}
+use Rattle.text.specs.Text.{piecesText, refusedText, refusedAtText, refusedAtLineText}
+use Rattle.text.specs.Answers.{wrote, left, wrotePieces, leftPieces, wroteRefusal, leftRefusal, wroteAt, leftAt, wroteRefusalAt, leftRefusalAt, wroteRefusalAtLine, leftRefusalAtLine, Stands}
 use Rattle.text.proofs.Lengths.{few-digits, length-pieces, length-refused}
 use Rattle.text.proofs.Answered.{wrote-fits, whole-is}
 
@@ -63,26 +63,44 @@ pub refusal-stands : (n : ℕ) (out : List ℕ) → wroteRefusal n (length out) 
 unfolding wroteRefusal leftRefusal
 refusal-stands n out h = text-stands (refusedText n) out h
 
--- ---- a refusal and its line
-pub refusal-at-unaltered : (n line : ℕ) (out : List ℕ) → (wroteRefusalAt n line (length out) .refusal ≡ 0 → ⊥) → leftRefusalAt n line out ≡ out
-unfolding wroteRefusalAt leftRefusalAt
-refusal-at-unaltered n line out = by-test (ltb line 1000) refl
+-- ---- a text that ends with the number of a place
+at-unaltered : (t : List ℕ) (place : ℕ) (out : List ℕ) → (wroteAt t place (length out) .refusal ≡ 0 → ⊥) → leftAt t place out ≡ out
+at-unaltered t place out = by-test (ltb place 1000) refl
   where
-    by-test : (b : Bool) → ltb line 1000 ≡ b → (wroteRefusalAt n line (length out) .refusal ≡ 0 → ⊥) → leftRefusalAt n line out ≡ out
-    by-test true e h = simp e (text-unaltered (refusedAtText n line) out (simp e at h))
+    by-test : (b : Bool) → ltb place 1000 ≡ b → (wroteAt t place (length out) .refusal ≡ 0 → ⊥) → leftAt t place out ≡ out
+    by-test true e h = simp e (text-unaltered t out (simp e at h))
     by-test false e h = simp e
 
-pub refusal-at-stands : (n line : ℕ) (out : List ℕ) → wroteRefusalAt n line (length out) .refusal ≡ 0
-    → Stands (refusedAtText n line) (wroteRefusalAt n line (length out)) out (leftRefusalAt n line out)
-unfolding wroteRefusalAt leftRefusalAt
-refusal-at-stands n line out = by-test (ltb line 1000) refl
+at-stands : (t : List ℕ) (place : ℕ) (out : List ℕ) → wroteAt t place (length out) .refusal ≡ 0
+    → Stands t (wroteAt t place (length out)) out (leftAt t place out)
+at-stands t place out = by-test (ltb place 1000) refl
   where
-    by-test : (b : Bool) → ltb line 1000 ≡ b → wroteRefusalAt n line (length out) .refusal ≡ 0
-        → Stands (refusedAtText n line) (wroteRefusalAt n line (length out)) out (leftRefusalAt n line out)
-    by-test true e h = simp e (text-stands (refusedAtText n line) out (simp e at h))
+    by-test : (b : Bool) → ltb place 1000 ≡ b → wroteAt t place (length out) .refusal ≡ 0
+        → Stands t (wroteAt t place (length out)) out (leftAt t place out)
+    by-test true e h = simp e (text-stands t out (simp e at h))
     by-test false e h =
         let k : _≡_ {A = ℕ} 5 0 = simp e at h in
         absurd (omega arith)
+
+-- ---- a refusal and its entry
+pub refusal-at-unaltered : (n entry : ℕ) (out : List ℕ) → (wroteRefusalAt n entry (length out) .refusal ≡ 0 → ⊥) → leftRefusalAt n entry out ≡ out
+unfolding wroteRefusalAt leftRefusalAt
+refusal-at-unaltered n entry out h = at-unaltered (refusedAtText n entry) entry out h
+
+pub refusal-at-stands : (n entry : ℕ) (out : List ℕ) → wroteRefusalAt n entry (length out) .refusal ≡ 0
+    → Stands (refusedAtText n entry) (wroteRefusalAt n entry (length out)) out (leftRefusalAt n entry out)
+unfolding wroteRefusalAt leftRefusalAt
+refusal-at-stands n entry out h = at-stands (refusedAtText n entry) entry out h
+
+-- ---- a refusal and its line
+pub refusal-at-line-unaltered : (n line : ℕ) (out : List ℕ) → (wroteRefusalAtLine n line (length out) .refusal ≡ 0 → ⊥) → leftRefusalAtLine n line out ≡ out
+unfolding wroteRefusalAtLine leftRefusalAtLine
+refusal-at-line-unaltered n line out h = at-unaltered (refusedAtLineText n line) line out h
+
+pub refusal-at-line-stands : (n line : ℕ) (out : List ℕ) → wroteRefusalAtLine n line (length out) .refusal ≡ 0
+    → Stands (refusedAtLineText n line) (wroteRefusalAtLine n line (length out)) out (leftRefusalAtLine n line out)
+unfolding wroteRefusalAtLine leftRefusalAtLine
+refusal-at-line-stands n line out h = at-stands (refusedAtLineText n line) line out h
 
 -- ---- room
 -- no list that is taken needs more than 8 + 3 + 68 * 512 bytes

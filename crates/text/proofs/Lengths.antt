@@ -9,7 +9,7 @@ use borrow.Author.Tests.{lt-ltb, le-ltb, ltb-true, ltb-false}
 use lib.Dec.{ltb}
 use lib.ListN.{length, length-append}
 use lib.Ieee.{Float}
-use Rattle.text.specs.Text.{hexDigit, hex, numberText, wordText, lineText, linesText, decimalText, headText, PIECES, piecesText, refusedText, AT, refusedAtText}
+use Rattle.text.specs.Text.{hexDigit, hex, numberText, wordText, lineText, linesText, decimalText, headText, PIECES, piecesText, refusedText, refusedWhere}
 
 -- ---- decimals
 pub one-digit : (n : ℕ) → n ≤ 9 → decimalText n ≡ hexDigit n ∷ []
@@ -88,6 +88,5 @@ pub length-refused : (n : ℕ) → length (refusedText n) ≡ 9 + length (decima
 unfolding refusedText headText
 length-refused n = simp length-append (omega arith)
 
-pub length-refused-at : (n line : ℕ) → length (refusedAtText n line) ≡ 13 + length (decimalText n) + length (decimalText line)
-unfolding refusedAtText
-length-refused-at n line = simp length-append (omega (arith, length-head AT line))
+pub length-where : (words : List ℕ) (n place : ℕ) → length (refusedWhere words n place) ≡ 9 + length (decimalText n) + length words + length (decimalText place)
+length-where words n place = simp length-append (omega (arith, length-head words place))

@@ -7,7 +7,7 @@ use native.Mathlib.Omega.{arith}
 use lib.ListN.{length, drop, getD, set, drop-of-length-le}
 use lib.Seq.{drop-cons}
 use lib.Ieee.{Float, nan}
-use Rattle.text.specs.Text.{numberText, wordText, lineText, linesText, decimalText, headText, PIECES, piecesText, AT, REFUSED, refusedAtText}
+use Rattle.text.specs.Text.{numberText, wordText, lineText, linesText, decimalText, headText, PIECES, piecesText, REFUSED, refusedWhere}
 use Rattle.text.specs.Inside.{put}
 use Rattle.text.proofs.Puts.{put-append, put-then}
 use Rattle.text.proofs.Lengths.{length-number, length-word, length-line, length-head}
@@ -80,10 +80,10 @@ put-pieces l n o e =
     let f : 0 + length t ≡ 8 + n = omega (arith, length-head PIECES (length l / 4)) in
     sym (put-append 0 t (linesText l) o ∙ ap (λ (k : ℕ). put k (linesText l) (put 0 t o)) f)
 
--- ---- a refusal and its line: the line's number begins where the refusal's ends
-pub put-refused-at : (n line w : ℕ) (o : List ℕ) → w ≡ length (decimalText n)
-    → put (8 + w) (headText AT line) (put 8 (decimalText n) (put 0 REFUSED o)) ≡ put 0 (refusedAtText n line) o
-unfolding refusedAtText
-put-refused-at n line w o e =
-    ap (λ (k : ℕ). put (8 + k) (headText AT line) (put 8 (decimalText n) (put 0 REFUSED o))) e
-    ∙ sym (put-append 0 REFUSED (decimalText n ++ headText AT line) o ∙ put-append 8 (decimalText n) (headText AT line) (put 0 REFUSED o))
+-- ---- a refusal and its place: the words between begin where the refusal's number ends
+pub put-where : (words : List ℕ) (n place w : ℕ) (o : List ℕ) → w ≡ length (decimalText n)
+    → put (8 + w) (headText words place) (put 8 (decimalText n) (put 0 REFUSED o)) ≡ put 0 (refusedWhere words n place) o
+put-where words n place w o e =
+    let t : List ℕ = headText words place in
+    let p : List ℕ = put 0 REFUSED o in
+    ap (λ (k : ℕ). put (8 + k) t (put 8 (decimalText n) p)) e ∙ sym (put-append 0 REFUSED (decimalText n ++ t) o ∙ put-append 8 (decimalText n) t p)

@@ -15,8 +15,9 @@ use Rattle.consts.specs.Refusal.{number, accepted, badList, noRoom}
 use Rattle.entries.specs.Lists.{All, whole}
 use Rattle.entries.proofs.Lengths.{not-whole-when}
 use Rattle.text.specs.declared.text.Written.{Written}
-use Rattle.text.specs.Text.{hexDigit, hex, numberText, wordText, lineText, linesText, decimalText, headText, PIECES, REFUSED, AT, piecesText, refusedText, refusedAtText, value}
-use Rattle.text.specs.Answers.{refusedWith, wrote, left, wrotePieces, leftPieces, wroteRefusal, leftRefusal, wroteRefusalAt, leftRefusalAt, Stands}
+use Rattle.text.specs.Text.{hexDigit, hex, numberText, wordText, lineText, linesText, decimalText, headText, PIECES, REFUSED, piecesText, refusedText, value}
+use Rattle.text.specs.Text.{AT, refusedAtText, AT-LINE, refusedAtLineText}
+use Rattle.text.specs.Answers.{refusedWith, wrote, left, wrotePieces, leftPieces, wroteRefusal, leftRefusal, wroteRefusalAt, leftRefusalAt, wroteRefusalAtLine, leftRefusalAtLine, Stands}
 use Rattle.text.proofs.Lengths as lengths
 use Rattle.text.proofs.Digits as digits
 use Rattle.text.proofs.Determined as determined
@@ -68,14 +69,18 @@ pub single-spaces : (a b c d : Float)
 unfolding lineText wordText
 single-spaces a b c d = refl
 
--- ---- "or only `refused N`"; and for GeoJSON boxes, one a line, `refused N at L`
+-- ---- "or only `refused N`"; with the entry of a list, counted from zero, `refused N at K`; and for GeoJSON boxes, one a line, `refused N at line L`
 pub refused-n : (n : ℕ) → refusedText n ≡ REFUSED ++ (decimalText n ++ (10 ∷ []))
 unfolding refusedText headText
 refused-n n = refl
 
-pub refused-n-at : (n line : ℕ) → refusedAtText n line ≡ REFUSED ++ (decimalText n ++ (AT ++ (decimalText line ++ (10 ∷ []))))
+pub refused-n-at : (n entry : ℕ) → refusedAtText n entry ≡ REFUSED ++ (decimalText n ++ (AT ++ (decimalText entry ++ (10 ∷ []))))
 unfolding refusedAtText headText
-refused-n-at n line = refl
+refused-n-at n entry = refl
+
+pub refused-n-at-line : (n line : ℕ) → refusedAtLineText n line ≡ REFUSED ++ (decimalText n ++ (AT-LINE ++ (decimalText line ++ (10 ∷ []))))
+unfolding refusedAtLineText headText
+refused-n-at-line n line = refl
 
 -- ---- two lists of pieces with one text are the same, number by number
 pub one-list : (l m : List Float) → whole 4 512 l ≡ true → whole 4 512 m ≡ true → Doubles l → Doubles m → piecesText l ≡ piecesText m → l ≡ m
@@ -121,10 +126,12 @@ pub room-for-refusal : (n room : ℕ) → 12 ≤ room → wroteRefusal n room �
 room-for-refusal n room h = laws.refusal-enough n room h
 
 -- ---- "No refusal alters a lent number": no byte of the output
-pub no-byte-altered : (t out : List ℕ) (l : List Float) (n line : ℕ)
+pub no-byte-altered : (t out : List ℕ) (l : List Float) (n k : ℕ)
     → ((wrote t (length out) .refusal ≡ 0 → ⊥) → left t out ≡ out) × ((wrotePieces l (length out) .refusal ≡ 0 → ⊥) → leftPieces l out ≡ out)
-    × ((wroteRefusal n (length out) .refusal ≡ 0 → ⊥) → leftRefusal n out ≡ out) × ((wroteRefusalAt n line (length out) .refusal ≡ 0 → ⊥) → leftRefusalAt n line out ≡ out)
-no-byte-altered t out l n line = (laws.text-unaltered t out, laws.unaltered l out, laws.refusal-unaltered n out, laws.refusal-at-unaltered n line out)
+    × ((wroteRefusal n (length out) .refusal ≡ 0 → ⊥) → leftRefusal n out ≡ out) × ((wroteRefusalAt n k (length out) .refusal ≡ 0 → ⊥) → leftRefusalAt n k out ≡ out)
+    × ((wroteRefusalAtLine n k (length out) .refusal ≡ 0 → ⊥) → leftRefusalAtLine n k out ≡ out)
+no-byte-altered t out l n k =
+    (laws.text-unaltered t out, laws.unaltered l out, laws.refusal-unaltered n out, laws.refusal-at-unaltered n k out, laws.refusal-at-line-unaltered n k out)
 
 -- ---- "a public contract determines the answer and each number left in lent slices": under 0 the bytes that are counted are the text, and every byte after them stays
 pub text-stands : (t out : List ℕ) → wrote t (length out) .refusal ≡ 0 → Stands t (wrote t (length out)) out (left t out)
@@ -136,6 +143,10 @@ pieces-stand l out h = laws.stands l out h
 pub refusal-stands : (n : ℕ) (out : List ℕ) → wroteRefusal n (length out) .refusal ≡ 0 → Stands (refusedText n) (wroteRefusal n (length out)) out (leftRefusal n out)
 refusal-stands n out h = laws.refusal-stands n out h
 
-pub refusal-at-stands : (n line : ℕ) (out : List ℕ) → wroteRefusalAt n line (length out) .refusal ≡ 0
-    → Stands (refusedAtText n line) (wroteRefusalAt n line (length out)) out (leftRefusalAt n line out)
-refusal-at-stands n line out h = laws.refusal-at-stands n line out h
+pub refusal-at-stands : (n entry : ℕ) (out : List ℕ) → wroteRefusalAt n entry (length out) .refusal ≡ 0
+    → Stands (refusedAtText n entry) (wroteRefusalAt n entry (length out)) out (leftRefusalAt n entry out)
+refusal-at-stands n entry out h = laws.refusal-at-stands n entry out h
+
+pub refusal-at-line-stands : (n line : ℕ) (out : List ℕ) → wroteRefusalAtLine n line (length out) .refusal ≡ 0
+    → Stands (refusedAtLineText n line) (wroteRefusalAtLine n line (length out)) out (leftRefusalAtLine n line out)
+refusal-at-line-stands n line out h = laws.refusal-at-line-stands n line out h

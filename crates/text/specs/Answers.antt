@@ -10,7 +10,7 @@ use lib.Ieee.{Float}
 use Rattle.consts.specs.Refusal.{number, accepted, badList, noRoom}
 use Rattle.entries.specs.Lists.{whole}
 use Rattle.text.specs.declared.text.Written.{Written}
-use Rattle.text.specs.Text.{piecesText, refusedText, refusedAtText}
+use Rattle.text.specs.Text.{piecesText, refusedText, refusedAtText, refusedAtLineText}
 
 -- ---- any text
 abbrev pub refusedWith : ℕ → Written
@@ -36,12 +36,26 @@ wroteRefusal n room = wrote (refusedText n) room
 unfoldable pub leftRefusal : ℕ → List ℕ → List ℕ
 leftRefusal n out = left (refusedText n) out
 
--- ---- a refusal and its line, a number under 1,000
+-- ---- a text that ends with the number of a place, under 1,000
+abbrev pub wroteAt : List ℕ → ℕ → ℕ → Written
+wroteAt t place room = cond (ltb place 1000) (wrote t room) (refusedWith (number badList))
+
+abbrev pub leftAt : List ℕ → ℕ → List ℕ → List ℕ
+leftAt t place out = cond (ltb place 1000) (left t out) out
+
+-- a refusal and its entry
 unfoldable pub wroteRefusalAt : ℕ → ℕ → ℕ → Written
-wroteRefusalAt n line room = cond (ltb line 1000) (wrote (refusedAtText n line) room) (refusedWith (number badList))
+wroteRefusalAt n entry room = wroteAt (refusedAtText n entry) entry room
 
 unfoldable pub leftRefusalAt : ℕ → ℕ → List ℕ → List ℕ
-leftRefusalAt n line out = cond (ltb line 1000) (left (refusedAtText n line) out) out
+leftRefusalAt n entry out = leftAt (refusedAtText n entry) entry out
+
+-- a refusal and its line
+unfoldable pub wroteRefusalAtLine : ℕ → ℕ → ℕ → Written
+wroteRefusalAtLine n line room = wroteAt (refusedAtLineText n line) line room
+
+unfoldable pub leftRefusalAtLine : ℕ → ℕ → List ℕ → List ℕ
+leftRefusalAtLine n line out = leftAt (refusedAtLineText n line) line out
 
 -- ---- what the laws say of an accepted writing w, which found the output as out and left it as o: the bytes that it counts are the text t, and every byte
 -- after them is as it was

@@ -63,13 +63,23 @@ piecesText l = headText PIECES (length l / 4) ++ linesText l
 unfoldable pub refusedText : ℕ → List ℕ
 refusedText n = headText REFUSED n
 
--- ---- a refusal and the line that it stands on
--- ` at `
+-- ---- a refusal and its place, with the words between
+abbrev pub refusedWhere : List ℕ → ℕ → ℕ → List ℕ
+refusedWhere words n place = REFUSED ++ (decimalText n ++ headText words place)
+
+-- ` at `, before the number of an entry, counted from zero
 abbrev pub AT : List ℕ
 AT = 32 ∷ (97 ∷ (116 ∷ (32 ∷ [])))
 
 unfoldable pub refusedAtText : ℕ → ℕ → List ℕ
-refusedAtText n line = REFUSED ++ (decimalText n ++ headText AT line)
+refusedAtText n entry = refusedWhere AT n entry
+
+-- ` at line `, before the number of a line, counted from 1
+abbrev pub AT-LINE : List ℕ
+AT-LINE = 32 ∷ (97 ∷ (116 ∷ (32 ∷ (108 ∷ (105 ∷ (110 ∷ (101 ∷ (32 ∷ []))))))))
+
+unfoldable pub refusedAtLineText : ℕ → ℕ → List ℕ
+refusedAtLineText n line = refusedWhere AT-LINE n line
 
 -- ---- what digits are worth
 unfoldable pub digitValue : ℕ → ℕ

@@ -1,7 +1,8 @@
 // Writes what document 01 gives the program `common` to write: `pieces N` and a line a piece, four bit
-// patterns in 16 upper-case hexadecimal digits with single spaces; or only `refused N`. A program that
-// reads lines says `refused N at LINE`. Every line ends with a newline. Each private writer puts one text
-// at a place, and its contract says which.
+// patterns in 16 upper-case hexadecimal digits with single spaces; or only `refused N`. A refusal is told
+// with its place in two ways: `refused N at K`, K the number of a list's entry, counted from zero; and, by
+// a program that reads lines, `refused N at line L`, L counted from 1. Every line ends with a newline. Each
+// private writer puts one text at a place, and its contract says which.
 use bits::pattern;
 use consts::ACCEPTED;
 use consts::BAD_LIST;
@@ -10,9 +11,9 @@ ghost use mathlib.Core.Path.{_≡_};
 ghost use Prim.Native.Nat.{_+_, _*_, _<_, _≤_, _/_, _%_, _^_};
 ghost use lib.ListN.{length, getD};
 ghost use lib.Ieee.{nan};
-ghost use Rattle.text.specs.Text.{hexDigit, numberText, wordText, lineText, linesText, decimalText, headText, piecesText, refusedAtText};
+ghost use Rattle.text.specs.Text.{hexDigit, numberText, wordText, lineText, linesText, decimalText, headText, piecesText, refusedWhere};
 ghost use Rattle.text.specs.Inside.{put};
-ghost use Rattle.text.specs.Answers.{wrote, left, wrotePieces, leftPieces, wroteRefusal, leftRefusal, wroteRefusalAt, leftRefusalAt};
+ghost use Rattle.text.specs.Answers.{wrote, left, wrotePieces, leftPieces, wroteRefusal, leftRefusal, wroteAt, leftAt, wroteRefusalAt, leftRefusalAt, wroteRefusalAtLine, leftRefusalAtLine};
 
 // What was written: how many bytes stand at the start of the output; none under a refusal.
 pub struct Written {
@@ -223,14 +224,21 @@ pub fn write_text(s: &[u8], out: &mut [u8]) -> Written
     }
 }
 
-// The refusal number n and the line that it stands on, where all three fit.
-fn write_at(n: u8, line: u64, out: &mut [u8]) -> Written
-    requires { ⌜ line < 1000 ⌝ }
-    ensures { λ r. ⌜ r ≡ wrote (refusedAtText n line) (length (now (out .entry))) ⌝ }
-    ensures { λ _. ⌜ now (out .exit) ≡ left (refusedAtText n line) (now (out .entry)) ⌝ }
+// The refusal number n, the words between and the number of a place, where all of them fit: a place of more
+// than three digits is refused.
+fn write_where(n: u8, words: &[u8], place: u64, out: &mut [u8]) -> Written
+    requires { ⌜ length (now words) ≤ 9 ⌝ }
+    ensures { λ r. ⌜ r ≡ wroteAt (refusedWhere (now (words .entry)) n place) place (length (now (out .entry))) ⌝ }
+    ensures { λ _. ⌜ now (out .exit) ≡ leftAt (refusedWhere (now (words .entry)) n place) place (now (out .entry)) ⌝ }
 {
+    if place >= 1000 {
+        return Written {
+            refusal: BAD_LIST,
+            count: 0,
+        };
+    }
     let at = 8 + width(n as u64);
-    let count = at + 5 + width(line);
+    let count = at + words.len() + width(place) + 1;
     if out.len() < count {
         return Written {
             refusal: NO_ROOM,
@@ -239,27 +247,33 @@ fn write_at(n: u8, line: u64, out: &mut [u8]) -> Written
     }
     put_text(b"refused ", 0, out);
     put_decimal(n as u64, 8, out);
-    put_head(b" at ", line, at, out);
+    put_head(words, place, at, out);
     Written {
         refusal: ACCEPTED,
         count,
     }
 }
 
-// The refusal number n and the line that it stands on, to the start of `out`: a line number of more than
-// three digits is refused. Where there is no room, nothing is written.
-// Laws: Laws.refusal-at-stands, Laws.refusal-at-unaltered; Examples.refused-at-twelve.
-// Ruled out: of 8 and 12: `refused 8 at 21`; of 8 and 1,000: `refused 8 at 000` (it is refused with
-// 5).
-pub fn write_refusal_at(n: u8, line: u64, out: &mut [u8]) -> Written
-    ensures { λ r. ⌜ r ≡ wroteRefusalAt n line (length (now (out .entry))) ⌝ }
-    ensures { λ _. ⌜ now (out .exit) ≡ leftRefusalAt n line (now (out .entry)) ⌝ }
+// The refusal number n and the entry of a list that has the fault, counted from zero, to the start of
+// `out`: an entry's number of more than three digits is refused. Where there is no room, nothing is written.
+// Laws: Laws.refusal-at-stands, Laws.refusal-at-unaltered; Examples.refused-at-seventeen.
+// Ruled out: of 22 and 17: `refused 22 at 71`, or `refused 22 at line 17`; of 22 and 1,000:
+// `refused 22 at 000` (it is refused with 5).
+pub fn write_refusal_at(n: u8, entry: u64, out: &mut [u8]) -> Written
+    ensures { λ r. ⌜ r ≡ wroteRefusalAt n entry (length (now (out .entry))) ⌝ }
+    ensures { λ _. ⌜ now (out .exit) ≡ leftRefusalAt n entry (now (out .entry)) ⌝ }
 {
-    if line < 1000 {
-        return write_at(n, line, out);
-    }
-    Written {
-        refusal: BAD_LIST,
-        count: 0,
-    }
+    write_where(n, b" at ", entry, out)
+}
+
+// The refusal number n and the line that it stands on, counted from 1, to the start of `out`: a line number
+// of more than three digits is refused. Where there is no room, nothing is written.
+// Laws: Laws.refusal-at-line-stands, Laws.refusal-at-line-unaltered; Examples.refused-at-line-twelve.
+// Ruled out: of 8 and 12: `refused 8 at line 21`, or `refused 8 at 12`; of 8 and 1,000:
+// `refused 8 at line 000` (it is refused with 5).
+pub fn write_refusal_at_line(n: u8, line: u64, out: &mut [u8]) -> Written
+    ensures { λ r. ⌜ r ≡ wroteRefusalAtLine n line (length (now (out .entry))) ⌝ }
+    ensures { λ _. ⌜ now (out .exit) ≡ leftRefusalAtLine n line (now (out .entry)) ⌝ }
+{
+    write_where(n, b" at line ", line, out)
 }

@@ -3,10 +3,15 @@
 
 use std::f64::consts::{FRAC_PI_2, PI};
 
-use super::answer::{ACCEPTED, BAD_AMOUNT, BAD_POINT, NOT_VALID, OUT_OF_REACH};
+use super::answer::{
+    ACCEPTED, BAD_AMOUNT, BAD_CIRCLE, BAD_LATITUDE, BAD_POINT, HALF_EMPTY, OF_RECT, OUT_OF_REACH,
+};
 
 /// Numbers of a larger size are out of reach: 2^500.
 pub const REACH: f64 = f64::from_bits(0x5F30_0000_0000_0000);
+
+/// The next double above it.
+pub const BEYOND: f64 = f64::from_bits(0x5F30_0000_0000_0001);
 
 /// The largest size that `remainder` takes: 4 PI.
 pub const REMAINDER_REACH: f64 = f64::from_bits(0x4029_21FB_5444_2D18);
@@ -68,9 +73,9 @@ impl Role {
         match self {
             Role::Line => (&[REACH, REACH], &[OUT_OF_REACH]),
             Role::LinePoint => (&[REACH], &[BAD_POINT]),
-            Role::Circle | Role::CircleEnds => (&[PI, PI], &[OUT_OF_REACH, NOT_VALID]),
+            Role::Circle | Role::CircleEnds => (&[PI, PI], &[OUT_OF_REACH, BAD_CIRCLE]),
             Role::CirclePoint => (&[PI], &[BAD_POINT]),
-            Role::Rect => (&[FRAC_PI_2, FRAC_PI_2, PI, PI], &[OUT_OF_REACH, NOT_VALID]),
+            Role::Rect => (&[FRAC_PI_2, FRAC_PI_2, PI, PI], &OF_RECT),
             Role::LatLng => (&[FRAC_PI_2, PI], &[BAD_POINT]),
             Role::VertexNumber => (&[255.0], &[]),
             Role::Amount => (&[REACH], &[BAD_AMOUNT]),
@@ -91,16 +96,17 @@ impl Role {
 
     /// The number that this operand by itself is refused with, or 0.
     pub fn fault(self, n: &[f64]) -> u8 {
-        let all_small = || n.iter().zip(self.largest()).all(|(x, most)| x.abs() <= *most);
-        let is_valid = match self {
+        let (largest, numbers) = self.facts();
+        let all_small = || n.iter().zip(largest).all(|(x, most)| x.abs() <= *most);
+        let is_valid = || match self {
             Role::Line => true,
             Role::Circle => circle_is_valid([n[0], n[1]]),
-            Role::Rect => rect_is_valid([n[0], n[1], n[2], n[3]]),
             _ => all_small(),
         };
-        match self.facts().1 {
+        match numbers {
             [OUT_OF_REACH, ..] if !n.iter().all(|x| in_reach(*x)) => OUT_OF_REACH,
-            [.., number] if !is_valid => *number,
+            _ if self == Role::Rect => why_not_valid([n[0], n[1], n[2], n[3]]).unwrap_or(ACCEPTED),
+            [.., number] if !is_valid() => *number,
             _ => ACCEPTED,
         }
     }
@@ -154,14 +160,27 @@ pub fn circle_is_valid([lo, hi]: Arc) -> bool {
     lo.abs() <= PI && hi.abs() <= PI && seam_is_pi
 }
 
-/// Size of lat.lo and value of lat.hi at most PI/2, circle valid, both parts empty or neither.
-pub fn rect_is_valid([lat_lo, lat_hi, lng_lo, lng_hi]: Rect) -> bool {
+/// What document 02 tests a rectangle in reach for, in its order: the numbers, and whether each test finds something.
+fn rect_tests([lat_lo, lat_hi, lng_lo, lng_hi]: Rect) -> [(u8, bool); 3] {
+    // The size of lo, but the value of hi: an empty latitude may end far below -PI/2.
+    let lat_in_range = lat_lo.abs() <= FRAC_PI_2 && lat_hi <= FRAC_PI_2;
     let lat_empty = lat_lo > lat_hi;
     let lng_empty = lng_lo == PI && lng_hi == -PI;
-    lat_lo.abs() <= FRAC_PI_2
-        && lat_hi <= FRAC_PI_2
-        && circle_is_valid([lng_lo, lng_hi])
-        && lat_empty == lng_empty
+    [
+        (BAD_LATITUDE, !lat_in_range),
+        (BAD_CIRCLE, !circle_is_valid([lng_lo, lng_hi])),
+        (HALF_EMPTY, lat_empty != lng_empty),
+    ]
+}
+
+/// The number of the first test that finds something. None: the rectangle is valid.
+fn why_not_valid(rect: Rect) -> Option<u8> {
+    rect_tests(rect).into_iter().find(|(_, found)| *found).map(|(number, _)| number)
+}
+
+/// Size of lat.lo and value of lat.hi at most PI/2, circle valid, both parts empty or neither.
+pub fn rect_is_valid(rect: Rect) -> bool {
+    why_not_valid(rect).is_none()
 }
 
 /// An accepted answer has no negative zero.

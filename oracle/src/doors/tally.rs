@@ -159,11 +159,11 @@ impl Tally {
         &mut found.expect("every kind has a row").1
     }
 
-    /// The first words of answers that occur and are neither "0" nor "?".
+    /// The first words of answers that occur and are neither "0" nor "?", as numbers rise.
     fn refusals_seen(&self) -> Vec<String> {
         let mut seen: Vec<String> =
             self.rows.iter().flat_map(|row| row.1.by_refusal.keys().cloned()).collect();
-        seen.sort();
+        seen.sort_by_key(|word| (word.len(), word.clone()));
         seen.dedup();
         seen.retain(|number| number != "0" && number != "?");
         seen

@@ -70,7 +70,11 @@ fn spoil(rng: &mut Rng, takes: &[Role], drawn: &mut [f64]) {
     let places: Vec<(Role, usize)> = places(takes).collect();
     if let Some(rect) = some_rect(rng, takes) {
         if rng.percent(20) {
-            return rect::half_empty(rng, &mut drawn[rect..rect + 4]);
+            rect::half_empty(rng, &mut drawn[rect..rect + 4]);
+            // Mostly nothing else is wrong.
+            if rng.percent(70) {
+                return;
+            }
         }
     }
     let sure = rng.below(drawn.len());
@@ -115,13 +119,14 @@ pub fn outside(rng: &mut Rng, role: Role, place: usize) -> f64 {
     }
 }
 
-/// A rectangle that is refused with this number, 1 or 2.
+/// A rectangle that is refused with this number. At times it shows other faults too, which are tested after that one.
 pub fn bad_rect(rng: &mut Rng, number: u8) -> Rect {
     loop {
         let mut drawn = rect::rect(rng, &[]);
-        if rng.percent(30) {
+        if rng.percent(40) {
             rect::half_empty(rng, &mut drawn);
-        } else {
+        }
+        for _ in 0..rng.pick(&[0, 1, 1, 2]) {
             let at = rng.below(4);
             drawn[at] = outside(rng, Role::Rect, at);
         }

@@ -6,7 +6,7 @@ use std::f64::consts::{FRAC_PI_2, PI};
 use super::circle;
 use super::number::{edge, eighths, fresh, near, neighbour, out_of_reach, signed, up_to};
 use crate::base::rng::Rng;
-use crate::base::roles::{in_reach, rect_is_valid, Role, REACH};
+use crate::base::roles::{in_reach, rect_is_valid, Role, BEYOND, REACH};
 
 const EMPTY_LNG: [f64; 2] = [PI, -PI];
 const FULL_LNG: [f64; 2] = [-PI, PI];
@@ -28,6 +28,24 @@ pub const KNOWN: &[[f64; 4]] = &[
     [0.0, 0.0, 0.0, 0.0], // a point
     [0.0, 1.0, 1.0, -1.0],
     [0.0, 1.0, -1.0, 1.0],
+];
+
+/// Rectangles that are refused and have several faults, or one that looks like another: which ones, as refusal numbers.
+pub const FAULTY: &[[f64; 4]] = &[
+    [2.0, 2.0, 4.0, 0.0], // 21 and 22
+    [0.0, 2.0, -PI, 0.0],
+    [2.0, 0.0, 0.0, 1.0], // 21 and 23
+    [0.0, 2.0, PI, -PI],
+    [1.0, 0.0, 4.0, 0.0], // 22 and 23
+    [1.0, 0.0, -PI, -PI],
+    [2.0, 1.0, 4.0, 0.0], // all three
+    [-2.0, -3.0, -PI, 4.0],
+    [0.0, BEYOND, 0.0, 1.0],   // 1 and 21
+    [0.0, 1.0, 0.0, -BEYOND],  // 1 and 22
+    [1.0, -BEYOND, 0.0, 1.0],  // 1 and 23
+    [2.0, 1.0, 4.0, f64::NAN], // 1 and all three
+    [0.0, -2.0, 0.0, 1.0],     // 23 alone: lat.hi has a size over PI/2, but no such value
+    [0.0, -2.0, 4.0, 0.0],     // 22 and 23, but not 21
 ];
 
 /// A valid rectangle. `earlier` are the numbers of the rectangle before it, or nothing.

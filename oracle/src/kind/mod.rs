@@ -68,7 +68,7 @@ pub trait Asked {
     fn answer(&self) -> Answer;
 
     fn refusal(&self) -> u8 {
-        self.answer().refusal
+        self.answer().refusal.number
     }
 
     /// The arms that it reaches.

@@ -98,7 +98,7 @@ impl Asked for Question {
 
     fn answer(&self) -> Answer {
         let (refusal, value) = self.op.answer(&self.numbers);
-        Answer { refusal, words: value.words() }
+        Answer { refusal: refusal.into(), words: value.words() }
     }
 
     fn refusal(&self) -> u8 {

@@ -1,5 +1,5 @@
-//! What is stored of an operation: boundary values in every place, and circle intervals, rectangles and vertex
-//! numbers with something special about them.
+//! What is stored of an operation: boundary values in every place; circle intervals, rectangles and vertex numbers
+//! with something special about them, rectangles with several faults among them.
 
 use super::{Op, Question};
 use crate::base::roles::{self, Role};
@@ -68,6 +68,7 @@ fn known(op: &Op) -> Vec<Vec<f64>> {
     [
         in_turn(op, &arcs, &starts(op, is_arc)),
         in_turn(op, draw::rect::KNOWN, &starts(op, is_rect)),
+        in_turn(op, draw::rect::FAULTY, &starts(op, is_rect)),
         in_turn(op, &numbers, &starts(op, is_number)),
     ]
     .concat()

@@ -74,8 +74,8 @@ impl Asked for Question {
 
 fn answered<T>(decided: Result<T, u8>, words: impl Fn(T) -> String, refused: T) -> Answer {
     match decided {
-        Ok(given) => Answer { refusal: ACCEPTED, words: words(given) },
-        Err(refusal) => Answer { refusal, words: words(refused) },
+        Ok(given) => Answer { refusal: ACCEPTED.into(), words: words(given) },
+        Err(number) => Answer { refusal: number.into(), words: words(refused) },
     }
 }
 

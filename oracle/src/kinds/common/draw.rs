@@ -4,7 +4,7 @@
 use std::f64::consts::{FRAC_PI_2, PI};
 
 use super::question::{needed, Question, MOST_NUMBERS, MOST_RECTS};
-use crate::base::answer::{NOT_VALID, OUT_OF_REACH};
+use crate::base::answer::OF_RECT;
 use crate::base::rng::Rng;
 use crate::base::roles::{Rect, EMPTY, FULL};
 use crate::draw::{bad_rect, circle, neighbour, rect};
@@ -14,9 +14,8 @@ use crate::kind::SHORT;
 pub fn short(rng: &mut Rng) -> Question {
     let count = rng.below(SHORT + 1);
     let mut rects = few(rng, count);
-    if rng.percent(8) && !rects.is_empty() {
-        let (at, number) = (rng.below(count), rng.pick(&[OUT_OF_REACH, NOT_VALID]));
-        rects[at] = bad_rect(rng, number);
+    if rng.percent(6) {
+        spoil(rng, &mut rects);
     }
     let mut numbers = rects.concat();
     if rng.percent(2) {
@@ -34,9 +33,30 @@ pub fn long(rng: &mut Rng) -> Question {
         2 => MOST_RECTS + 1,
         _ => SHORT + 1 + rng.below(MOST_RECTS - SHORT),
     };
-    let numbers = many(rng, count).concat();
+    let mut rects = many(rng, count);
+    if rng.percent(15) {
+        spoil(rng, &mut rects);
+    }
+    let numbers = rects.concat();
     let room = room(rng, &numbers);
     Question { room, numbers }
+}
+
+/// Makes an entry one that is refused: the first, the last or any; now and then a second one too.
+fn spoil(rng: &mut Rng, rects: &mut [Rect]) {
+    let count = rects.len();
+    if count == 0 {
+        return;
+    }
+    for _ in 0..rng.pick(&[1, 1, 1, 2]) {
+        let at = match rng.below(4) {
+            0 => 0,
+            1 => count - 1,
+            _ => rng.below(count),
+        };
+        let number = rng.pick(&OF_RECT);
+        rects[at] = bad_rect(rng, number);
+    }
 }
 
 /// Mostly just room enough, sometimes more, sometimes from none to one short.

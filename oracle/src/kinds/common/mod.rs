@@ -10,9 +10,9 @@ mod worked;
 
 use std::f64::consts::PI;
 
-use question::{Question, MOST_NUMBERS};
+use question::{faults, Question, MOST_NUMBERS};
 
-use crate::base::answer::{Answer, ACCEPTED, BAD_LENGTH, NOT_VALID, NO_ROOM, OUT_OF_REACH};
+use crate::base::answer::{Answer, ACCEPTED, BAD_LENGTH, NO_ROOM, OF_RECT};
 use crate::base::rng::Rng;
 use crate::base::roles::Rect;
 use crate::base::words;
@@ -37,19 +37,24 @@ impl Asked for Question {
     /// A refusal writes nothing, and what lies after the last piece stays.
     fn answer(&self) -> Answer {
         let mut output = vec![BEFORE; self.room];
-        let (refusal, pieces) = self.decided().map_or_else(|n| (n, Vec::new()), |pieces| (ACCEPTED, pieces));
+        let refused = |refusal| (refusal, Vec::new());
+        let (refusal, pieces) = self.decided().map_or_else(refused, |pieces| (ACCEPTED.into(), pieces));
         output[..4 * pieces.len()].copy_from_slice(pieces.as_flattened());
         Answer { refusal, words: format!(" {}{}", pieces.len(), words::answered(&output)) }
     }
 
     fn refusal(&self) -> u8 {
-        self.decided().err().unwrap_or(ACCEPTED)
+        self.decided().err().map_or(ACCEPTED, |refusal| refusal.number)
     }
 
-    /// Of a refused list none, but for its length.
+    /// Of a refused list those of its bad entries, and its length.
     fn arms(&self) -> Vec<Arm> {
-        let mut hit =
-            self.decided().map_or_else(|_| Vec::new(), |pieces| hits(ARMS, &(self.numbers.len(), pieces)));
+        let mut hit = match self.decided() {
+            Ok(pieces) => hits(ARMS, &(self.numbers.len(), pieces)),
+            Err(refusal) => {
+                refusal.entry.map_or(Vec::new(), |at| hits(BAD_ENTRY, &(at, faults(&self.numbers))))
+            }
+        };
         if self.numbers.len() / 4 > SHORT {
             hit.push(LONG_LIST);
         }
@@ -72,6 +77,16 @@ const ARMS: &[Row<(usize, Vec<Rect>)>] = &[
     ("an empty list", |(count, _)| *count == 0),
 ];
 
+/// Of the entry that is refused, and what each entry by itself is refused with.
+const BAD_ENTRY: &[Row<(usize, Vec<u8>)>] = &[
+    ("of several entries the first is refused", |(at, faults)| *at == 0 && faults.len() > 1),
+    ("a middle entry is refused", |(at, faults)| *at > 0 && at + 1 < faults.len()),
+    ("of several entries the last is refused", |(at, faults)| *at > 0 && at + 1 == faults.len()),
+    ("a later entry is bad in another way", |(at, faults)| {
+        faults[at + 1..].iter().any(|number| ![ACCEPTED, faults[*at]].contains(number))
+    }),
+];
+
 struct Common;
 
 impl Kind for Common {
@@ -80,11 +95,11 @@ impl Kind for Common {
     }
 
     fn refusals(&self) -> Vec<u8> {
-        vec![OUT_OF_REACH, NOT_VALID, BAD_LENGTH, NO_ROOM]
+        [&OF_RECT[..], &[BAD_LENGTH, NO_ROOM]].concat()
     }
 
     fn arms(&self) -> Vec<Arm> {
-        named(ARMS).collect()
+        named(ARMS).chain(named(BAD_ENTRY)).collect()
     }
 
     fn read(&'static self, words: &[&[u8]]) -> Option<Box<dyn Asked>> {

@@ -1,9 +1,10 @@
-//! What document 01 and demand 3 say of the common region, over places.
+//! What document 01 and demand 3 say of the common region, over places; and document 02 of a list that is refused.
 
 use std::f64::consts::PI;
 
 use super::draw;
-use super::question::pieces;
+use super::question::{faults, pieces};
+use crate::base::answer::{Refusal, ACCEPTED, BAD_LENGTH};
 use crate::base::check::{drawn, Check, Statements};
 use crate::base::places::{at, first, held, is_full, last, telling_places, At, Place};
 use crate::base::roles::{rect_is_valid, rects, Rect};
@@ -11,11 +12,31 @@ use crate::base::roles::{rect_is_valid, rects, Rect};
 pub const CHECKS: &[Check] = &[("lists of rectangles against places", || {
     drawn("places of lists", 50_000, |rng, tried| {
         let numbers = draw::short(rng).numbers;
-        if let Ok(pieces) = pieces(&numbers) {
-            tried.hold_all(statements(&rects(&numbers), &pieces), &numbers);
+        match pieces(&numbers) {
+            Ok(pieces) => tried.hold_all(statements(&rects(&numbers), &pieces), &numbers),
+            Err(refusal) => tried.hold_all(refused(&numbers, refusal), &numbers),
         }
     })
 })];
+
+fn refused(numbers: &[f64], refusal: Refusal) -> Statements {
+    let Some(entry) = refusal.entry else {
+        return vec![(
+            "a list whose entries are not looked at has a bad length",
+            refusal.number == BAD_LENGTH,
+        )];
+    };
+    let (before, rest) = numbers.split_at(4 * entry);
+    vec![
+        ("the entries before the refused one are good", faults(before).iter().all(|n| *n == ACCEPTED)),
+        ("the refused entry has the number that it has by itself", {
+            pieces(&rest[..4]).err() == Some(Refusal::at(refusal.number, 0))
+        }),
+        ("what comes after the refused entry changes nothing", {
+            pieces(&numbers[..4 * entry + 4]).err() == Some(refusal)
+        }),
+    ]
+}
 
 fn statements(given: &[Rect], pieces: &[Rect]) -> Statements {
     let in_pieces = |place: At| pieces.iter().filter(|piece| held(**piece, place)).count();

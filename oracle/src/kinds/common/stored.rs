@@ -1,13 +1,14 @@
 //! The stored questions of the common region: lists that are special by their kind, each with several
-//! rooms, the longest lists, and lines that are no question.
+//! rooms, bad entries everywhere, the longest lists, and lines that are no question.
 
 use std::f64::consts::{FRAC_PI_2, PI};
 
 use super::question::{needed, Question, MOST_NUMBERS, MOST_RECTS};
-use crate::base::answer::{NOT_VALID, OUT_OF_REACH};
+use crate::base::answer::{BAD_CIRCLE, OF_RECT};
 use crate::base::rng::Rng;
 use crate::base::roles::{Rect, EMPTY, FULL, NEXT_TO_SEAM};
 use crate::draw::bad_rect as bad;
+use crate::draw::rect::FAULTY;
 use crate::kind::{boxed, Stored};
 
 /// Longitudes that zones are made of: wide ones, nearly full ones, single points, some over the seam.
@@ -34,12 +35,12 @@ const ARCS: &[[f64; 2]] = &[
 ];
 
 pub fn of(rng: &mut Rng) -> Stored {
-    let special = [pairs(), each_room(), at_each_position(rng), poles()];
+    let special = [pairs(), each_room(), at_each_position(rng), two_bad(rng), bad_far_on(rng), poles()];
     Stored {
         special: boxed(special.into_iter().flatten()),
         each_arm: 6,
         free: 60,
-        longest: boxed(longest()),
+        longest: boxed(longest(rng)),
         no_questions: no_questions(),
         spoils: &[],
         last: boxed([nested()]),
@@ -84,28 +85,52 @@ fn each_room() -> Vec<Question> {
     lists.iter().flat_map(rooms).collect()
 }
 
-/// A list of four zones with four pieces: at each position an empty entry, a full one, a point, a bad one
-/// of each kind, a bad one beside another bad one; and the list cut off after each number.
+/// Four zones with four pieces.
+const FOUR: [Rect; 4] =
+    [[0.0, 1.0, 2.0, 1.0], [0.0, 1.0, 0.5, 0.25], [0.0, 1.0, 0.25, -0.5], [0.0, 1.0, -1.0, -1.5]];
+
+/// The four zones, but some entries others.
+fn four_but(others: &[(usize, Rect)]) -> Question {
+    let mut rects = FOUR;
+    others.iter().for_each(|(at, rect)| rects[*at] = *rect);
+    Question { room: 16, numbers: rects.concat() }
+}
+
+/// The list of four: at each position an empty entry, a full one, a point, a bad one of each kind; one with several
+/// faults at positions in turn; and the list cut off after each number.
 fn at_each_position(rng: &mut Rng) -> Vec<Question> {
-    let zones = [[2.0, 1.0], [0.5, 0.25], [0.25, -0.5], [-1.0, -1.5]].map(zone);
     let mut asked = Vec::new();
-    for at in 0..zones.len() {
+    for at in 0..FOUR.len() {
         let mut entries = vec![EMPTY, [-FRAC_PI_2, -2.0, PI, -PI], FULL, [0.0, 1.0, 1.0, 1.0]];
-        for number in [OUT_OF_REACH, NOT_VALID, OUT_OF_REACH, NOT_VALID] {
-            entries.push(bad(rng, number));
-        }
-        for entry in entries {
-            let mut rects = zones;
-            rects[at] = entry;
-            asked.push(Question { room: 16, numbers: rects.concat() });
-        }
-        let mut rects = zones;
-        rects[at] = bad(rng, NOT_VALID);
-        rects[(at + 1) % zones.len()] = bad(rng, OUT_OF_REACH);
-        asked.push(Question { room: 16, numbers: rects.concat() });
+        entries.extend(OF_RECT.map(|number| bad(rng, number)));
+        asked.extend(entries.into_iter().map(|entry| four_but(&[(at, entry)])));
     }
-    asked.extend((0..=16).map(|end| Question { room: 16, numbers: zones.concat()[..end].to_vec() }));
+    asked.extend(FAULTY.iter().enumerate().map(|(at, rect)| four_but(&[(at % FOUR.len(), *rect)])));
+    asked.extend((0..=16).map(|end| Question { room: 16, numbers: FOUR.concat()[..end].to_vec() }));
     asked
+}
+
+/// Two bad entries in the list of four, of each two kinds in both orders, and of one kind, at positions in turn.
+fn two_bad(rng: &mut Rng) -> Vec<Question> {
+    const POSITIONS: [[usize; 2]; 6] = [[0, 1], [1, 3], [0, 3], [2, 3], [0, 2], [1, 2]];
+    let kinds = OF_RECT.iter().flat_map(|first| OF_RECT.map(|second| [*first, second]));
+    let one = |(at, kinds): (usize, [u8; 2])| {
+        let [first, second] = POSITIONS[at % POSITIONS.len()];
+        four_but(&[(first, bad(rng, kinds[0])), (second, bad(rng, kinds[1]))])
+    };
+    kinds.enumerate().map(one).collect()
+}
+
+/// A bad entry far on in the list: of each kind at 17, and where the entry's number gets another digit. No room is
+/// needed, and there is some.
+fn bad_far_on(rng: &mut Rng) -> Vec<Question> {
+    let places = [(20, 17), (20, 17), (20, 17), (20, 17), (11, 9), (11, 10), (101, 99), (101, 100)];
+    let one = |((count, at), number): ((usize, usize), &u8)| {
+        let mut rects = vec![zone([2.0, 1.0]); count];
+        rects[at] = bad(rng, *number);
+        Question { room: 2, numbers: rects.concat() }
+    };
+    places.into_iter().zip(OF_RECT.iter().cycle()).map(one).collect()
 }
 
 /// Bands that meet in a pole, in one latitude, in neighbouring ones or not at all.
@@ -124,8 +149,9 @@ fn poles() -> Vec<Question> {
     bands.iter().flat_map(|a| bands.iter().map(move |b| pair(*a, *b))).collect()
 }
 
-/// The most entries with as many pieces, the most entries with one piece, and one entry too many.
-fn longest() -> Vec<Question> {
+/// The most entries with as many pieces, the most entries with one piece, the same with the last one bad, and one entry
+/// too many.
+fn longest(rng: &mut Rng) -> Vec<Question> {
     let notch = |at: usize| {
         let from = (at as f64 - 256.0) / 128.0;
         zone([from + 1.0 / 256.0, from])
@@ -133,8 +159,10 @@ fn longest() -> Vec<Question> {
     let notched: Vec<Rect> = (0..MOST_RECTS).map(notch).collect();
     let mut zones = vec![zone([2.0, 1.0]); MOST_RECTS];
     zones[MOST_RECTS - 1] = zone([0.5, 3.0]);
+    let mut last_bad = zones.clone();
+    last_bad[MOST_RECTS - 1] = bad(rng, BAD_CIRCLE);
     let too_many = vec![FULL; MOST_RECTS + 1];
-    vec![fitting(&notched), fitting(&zones), fitting(&too_many)]
+    vec![fitting(&notched), fitting(&zones), fitting(&last_bad), fitting(&too_many)]
 }
 
 /// More arcs across the seam than are sorted at once, each starting in the one before it; the last one twice.

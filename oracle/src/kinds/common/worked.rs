@@ -31,11 +31,25 @@ pub const WORKED: Worked = &[
     ("common 4 | -PI/2 PI/2 -PI PI PI/2 PI/2 1.0 2.0", "0 1 PI/2 PI/2 1.0 2.0"),
     // zeros are read as one, and none is written negative
     ("common 4 | -0.0 1.0 -0.0 1.0 -1.0 -0.0 -1.0 -0.0", "0 1 0.0 0.0 0.0 0.0"),
-    // order: the length, then entries from the first, 1 before 2 in each, then the room
+    // order: the length, then entries from the first, 1, 21, 22, 23 in each, then the room; an entry's place is told
     ("common 0 | 2.0 2.0 0.0 1.0 7FF8000000000000", "5 0"),
-    ("common 1 | 2.0 2.0 0.0 1.0 7FF8000000000000 0.0 0.0 1.0", "2 0 42.0"),
-    ("common 1 | 2.0 2.0 0.0 7FF8000000000000 2.0 2.0 0.0 1.0", "1 0 42.0"),
-    ("common 0 | 1.0 0.0 PI -PI 0.0 1.0 -PI 1.0", "2 0"),
+    ("common 1 | 2.0 2.0 0.0 1.0 7FF8000000000000 0.0 0.0 1.0", "21 at 0 0 42.0"),
+    ("common 1 | 2.0 2.0 0.0 7FF8000000000000 2.0 2.0 0.0 1.0", "1 at 0 0 42.0"),
+    ("common 0 | 1.0 0.0 PI -PI 0.0 1.0 -PI 1.0", "22 at 1 0"),
+    ("common 1 | 0.0 1.0 0.0 1.0 0.0 1.0 0.0 1.0 0.0 1.0 PI -PI", "23 at 2 0 42.0"),
+    ("common 0 | 0.0 1.0 0.0 1.0 1.0 0.0 0.0 1.0 0.0 1.0 0.0 1.0", "23 at 1 0"),
+    ("common 0 | 0.0 1.0 0.0 1.0 0.0 1.0 0.0 7FF0000000000000", "1 at 1 0"),
+    // of several bad entries the first decides
+    ("common 0 | 1.0 0.0 0.0 1.0 0.0 1.0 4.0 0.0 2.0 2.0 0.0 1.0", "23 at 0 0"),
+    ("common 0 | 0.0 1.0 0.0 1.0 0.0 1.0 4.0 0.0 2.0 2.0 0.0 1.0", "22 at 1 0"),
+    ("common 0 | 2.0 2.0 0.0 1.0 0.0 1.0 4.0 0.0 0.0 1.0 0.0 1.0", "21 at 0 0"),
+    ("common 0 | 0.0 1.0 4.0 0.0 0.0 1.0 4.0 0.0", "22 at 0 0"),
+    // of several faults of one entry the first that is tested
+    ("common 0 | 0.0 1.0 0.0 1.0 2.0 2.0 4.0 0.0", "21 at 1 0"),
+    ("common 0 | 0.0 1.0 0.0 1.0 0.0 2.0 PI -PI", "21 at 1 0"),
+    ("common 0 | 0.0 1.0 0.0 1.0 1.0 0.0 4.0 0.0", "22 at 1 0"),
+    ("common 0 | 0.0 1.0 0.0 1.0 2.0 1.0 4.0 0.0", "21 at 1 0"),
+    ("common 0 | 0.0 1.0 0.0 1.0 2.0 1.0 4.0 7FF8000000000000", "1 at 1 0"),
     // what is no question
     ("common", "?"),
     ("common 4", "?"),

@@ -2,7 +2,7 @@
 //! of the list, and what a list can have that one point cannot.
 
 use super::question::{by_one, one_point, Question, Way};
-use crate::base::answer::{ACCEPTED, BAD_LENGTH, BAD_POINT, NOT_VALID, OUT_OF_REACH};
+use crate::base::answer::{ACCEPTED, BAD_LENGTH, BAD_POINT, OF_RECT, OUT_OF_REACH, WHY_NOT_VALID};
 use crate::base::roles::{is_negative_zero, Point, Rect, Role, EMPTY};
 use crate::kind::arms::{hits, named, Row};
 use crate::kind::{Arm, Kind, LONG_LIST, SHORT};
@@ -30,7 +30,9 @@ const OF_BOTH: &[Row<Seen>] = &[
     ("an empty list, start out of reach", |seen| {
         seen.refusal == OUT_OF_REACH && seen.asked.numbers.is_empty()
     }),
-    ("an empty list, start not valid", |seen| seen.refusal == NOT_VALID && seen.asked.numbers.is_empty()),
+    ("an empty list, start not valid", |seen| {
+        WHY_NOT_VALID.contains(&seen.refusal) && seen.asked.numbers.is_empty()
+    }),
     ("one point", |seen| seen.refusal == ACCEPTED && seen.steps.len() == 1),
     ("the start is empty, but not the standard one", |seen| {
         let [lo, hi, ..] = seen.asked.start;
@@ -59,9 +61,7 @@ const OF_BOTH: &[Row<Seen>] = &[
             && seen.steps.len() > 2
             && seen.steps[1..seen.steps.len() - 1].iter().any(|step| step.refusal == BAD_POINT)
     }),
-    ("start refused, a point is bad too", |seen| {
-        matches!(seen.refusal, OUT_OF_REACH | NOT_VALID) && seen.any_bad_point()
-    }),
+    ("start refused, a point is bad too", |seen| OF_RECT.contains(&seen.refusal) && seen.any_bad_point()),
     ("length refused, a point is bad too", |seen| seen.refusal == BAD_LENGTH && seen.any_bad_point()),
 ];
 

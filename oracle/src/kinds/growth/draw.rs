@@ -5,7 +5,7 @@
 use std::f64::consts::{FRAC_PI_2, PI};
 
 use super::question::{Question, Way, MOST_POINTS};
-use crate::base::answer::{NOT_VALID, OUT_OF_REACH};
+use crate::base::answer::{OUT_OF_REACH, WHY_NOT_VALID};
 use crate::base::rng::Rng;
 use crate::base::roles::{Rect, Role};
 use crate::draw::{bad_rect, outside, rect};
@@ -48,9 +48,10 @@ pub fn long(rng: &mut Rng, way: Way) -> Question {
 
 /// A valid rectangle mostly, empty ones of every kind among them; some with a negative zero.
 fn start(rng: &mut Rng) -> Rect {
+    let number = rng.pick(&WHY_NOT_VALID);
     let drawn = match rng.below(100) {
         0..=2 => bad_rect(rng, OUT_OF_REACH),
-        3..=5 => bad_rect(rng, NOT_VALID),
+        3..=5 => bad_rect(rng, number),
         _ => rect::rect(rng, &[]),
     };
     if rng.percent(20) {

@@ -13,7 +13,7 @@ mod worked;
 
 use question::{Question, Way, MOST_NUMBERS, MOST_POINTS};
 
-use crate::base::answer::{Answer, BAD_LENGTH, BAD_POINT, NOT_VALID, OUT_OF_REACH};
+use crate::base::answer::{Answer, BAD_LENGTH, BAD_POINT, OF_RECT};
 use crate::base::rng::Rng;
 use crate::base::words;
 use crate::kind::spoils::OF_LISTS;
@@ -33,7 +33,7 @@ impl Asked for Question {
 
     fn answer(&self) -> Answer {
         let (refusal, left) = self.left();
-        Answer { refusal, words: words::answered(&left) }
+        Answer { refusal: refusal.into(), words: words::answered(&left) }
     }
 
     fn arms(&self) -> Vec<Arm> {
@@ -54,7 +54,7 @@ impl Kind for Way {
     }
 
     fn refusals(&self) -> Vec<u8> {
-        vec![OUT_OF_REACH, NOT_VALID, BAD_POINT, BAD_LENGTH]
+        [&OF_RECT[..], &[BAD_POINT, BAD_LENGTH]].concat()
     }
 
     fn arms(&self) -> Vec<Arm> {

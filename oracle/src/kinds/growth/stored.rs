@@ -5,8 +5,8 @@
 use std::f64::consts::{FRAC_PI_2, PI};
 
 use super::question::{Question, Way, MOST_POINTS};
-use crate::base::roles::{Point, Rect, EMPTY, NEXT_TO_SEAM, REACH};
-use crate::draw::rect::KNOWN;
+use crate::base::roles::{Point, Rect, BEYOND, EMPTY, NEXT_TO_SEAM, REACH};
+use crate::draw::rect::{FAULTY, KNOWN};
 use crate::kind::spoils::OF_LISTS;
 use crate::kind::{boxed, Kind, Stored};
 
@@ -32,9 +32,6 @@ const ODD_STARTS: &[Rect] = &[
     [-0.0, -0.0, -0.0, 0.0],
     [f64::NAN, 1.0, 0.0, 1.0],
 ];
-
-/// The next double above 2^500.
-const BEYOND: f64 = f64::from_bits(0x5F30_0000_0000_0001);
 
 /// Points that are taken: zeros, the seam by both names and its neighbours, poles, the smallest numbers.
 const POINTS: &[Point] = &[
@@ -96,7 +93,7 @@ fn grow(way: Way, start: Rect, points: &[Point]) -> Question {
 
 /// An empty list: the start is read, its zeros too, and refused where it is out of reach or not valid.
 fn no_points(way: Way) -> Vec<Question> {
-    let starts = KNOWN.iter().chain(ODD_STARTS).chain([&ZEROS]);
+    let starts = KNOWN.iter().chain(ODD_STARTS).chain(FAULTY).chain([&ZEROS]);
     starts.map(|start| grow(way, *start, &[])).collect()
 }
 

@@ -3,10 +3,10 @@
 use std::f64::consts::FRAC_PI_2;
 
 use super::ops::OPS;
-use crate::base::answer::ACCEPTED;
+use crate::base::answer::{ACCEPTED, BAD_CIRCLE, BAD_LATITUDE, HALF_EMPTY};
 use crate::base::check::{drawn, Check, Statements};
 use crate::base::places::{first, held, holds, holds_inside, last, place_of, telling_places, At};
-use crate::base::roles::{self, in_reach, rect_is_valid, seam_as_pi, Arc, Point, Rect, Role};
+use crate::base::roles::{self, in_reach, rect_is_valid, seam_as_pi, Arc, Point, Rect, Role, EMPTY, FULL};
 use crate::draw;
 use crate::kind::op::{self, find, Value};
 use crate::kinds::{latlng, s1};
@@ -25,6 +25,14 @@ pub const CHECKS: &[Check] = &[
             tried.hold(same, "the crate's validity is another", || op.written(&n));
         })
     }),
+    ("reasons of refusal against the crate's validity", || {
+        drawn("reasons", 200_000, |rng, tried| {
+            let n = draw::numbers(rng, &[Role::Rect], false);
+            let rect = roles::rects(&n)[0];
+            let same = Role::Rect.fault(&n) == reason(rect) || !n.iter().all(|x| in_reach(*x));
+            tried.hold(same, "the reason is another", || find(OPS, "rect.is_valid").written(&n));
+        })
+    }),
     ("pairs of rectangles against places", || {
         drawn("places of the globe", 100_000, |rng, tried| {
             let n = draw::numbers(rng, &[Role::Rect, Role::Rect, Role::AmountPair], true);
@@ -34,6 +42,20 @@ pub const CHECKS: &[Check] = &[
         })
     }),
 ];
+
+/// Why a rectangle is refused, told by the crate's validity alone: each part is tried beside another part that is good
+/// and goes with it.
+fn reason([lat_lo, lat_hi, lng_lo, lng_hi]: Rect) -> u8 {
+    let is_valid = |rect: Rect| find(OPS, "rect.is_valid").call(&rect) == Value::Test(true);
+    let [.., lo, hi] = if lat_lo > lat_hi { EMPTY } else { FULL };
+    let [south, north, ..] = if [lng_lo, lng_hi] == EMPTY[2..] { EMPTY } else { FULL };
+    match () {
+        _ if !is_valid([lat_lo, lat_hi, lo, hi]) => BAD_LATITUDE,
+        _ if !is_valid([south, north, lng_lo, lng_hi]) => BAD_CIRCLE,
+        _ if !is_valid([lat_lo, lat_hi, lng_lo, lng_hi]) => HALF_EMPTY,
+        _ => ACCEPTED,
+    }
+}
 
 fn yes(name: &str, operands: &[f64]) -> bool {
     op::yes(OPS, name, operands)

@@ -19,7 +19,8 @@ pub fn answer(input: &[u8]) -> String {
 }
 
 /// The boxes of the lines, or what refuses the input. No input at all is refused: a command that failed
-/// must not select the whole globe. An input of too many bytes is not looked at.
+/// must not select the whole globe. An input of too many bytes is not looked at. Lines are counted from 1, and the
+/// refusal says that it counts lines: the entries of other lists are counted from zero.
 fn boxes(input: &[u8]) -> Result<Vec<Bounds>, String> {
     let too_long = || format!("refused {BAD_LENGTH}\n");
     if input.len() > MOST_BYTES {
@@ -35,7 +36,7 @@ fn boxes(input: &[u8]) -> Result<Vec<Bounds>, String> {
         }
         match read_text(line.strip_suffix(b"\n").unwrap_or(line)) {
             Ok(bounds) => boxes.push(bounds),
-            Err(number) => return Err(format!("refused {number} at {}\n", boxes.len() + 1)),
+            Err(number) => return Err(format!("refused {number} at line {}\n", boxes.len() + 1)),
         }
     }
     Ok(boxes)

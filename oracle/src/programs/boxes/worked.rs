@@ -6,9 +6,9 @@ use crate::program::worked::WorkedInput as Worked;
 const SHORT: &[(&str, &str)] = &[
     // no line at all is bad text, and so is an empty line; the whole globe is a line like any other
     ("", "refused 8;"),
-    (";", "refused 8 at 1;"),
-    (";;", "refused 8 at 1;"),
-    ("[1,2,3,4];;", "refused 8 at 2;"),
+    (";", "refused 8 at line 1;"),
+    (";;", "refused 8 at line 1;"),
+    ("[1,2,3,4];;", "refused 8 at line 2;"),
     ("[-180,-90,180,90];", "[-180,-90,180,90];"),
     // the last line may lack its newline
     ("[1,2,3,4]", "[1,2,3,4];"),
@@ -36,7 +36,7 @@ const SHORT: &[(&str, &str)] = &[
     ("[170,10.1234567,-160,20];[175.0000001,5,180,15];", "[175.0000001,10.1234567,180,15];"),
     ("[170,10.1234567,-160,20];[150,15,-175,30];", "[170,15,-175,20];"),
     ("[-100,40,100,60];[0,-60,10,-40];", ""),
-    ("[-100,40,100,60];[80,45,-80,120];", "refused 9 at 2;"),
+    ("[-100,40,100,60];[80,45,-80,120];", "refused 9 at line 2;"),
     // -180 with 180 alone is all round: the gap just beyond the seam counts
     ("[-180,0,180,1];", "[-180,0,180,1];"),
     ("[-180,0,180,1];[-179.9999999,0,180,1];", "[-179.9999999,0,180,1];"),
@@ -44,10 +44,10 @@ const SHORT: &[(&str, &str)] = &[
     ("[180,0,-180,1];", "[180,0,180,1];"),
     ("[-180,0,180,1];[0,0,-0.0000001,1];", "[0,0,-0.0000001,1];"),
     // the first faulty line decides
-    ("[1,2,3,4];[1,2,3];[181,2,3,4];", "refused 8 at 2;"),
-    ("[1,2,3,4];[181,2,3,4];[1,2,3];", "refused 9 at 2;"),
-    ("[0,0,1,1];[2,0,3,1];[1,5,3,4];", "refused 9 at 3;"),
-    ("[1,2,3,4]\r\r;x", "refused 8 at 2;"),
+    ("[1,2,3,4];[1,2,3];[181,2,3,4];", "refused 8 at line 2;"),
+    ("[1,2,3,4];[181,2,3,4];[1,2,3];", "refused 9 at line 2;"),
+    ("[0,0,1,1];[2,0,3,1];[1,5,3,4];", "refused 9 at line 3;"),
+    ("[1,2,3,4]\r\r;x", "refused 8 at line 2;"),
 ];
 
 pub fn all() -> Vec<Worked> {
@@ -76,10 +76,10 @@ fn long() -> [(&'static str, Vec<u8>, &'static str); 15] {
         ("513 lines", lines(MOST_LINES + 1, ""), "refused 5;"),
         ("513 lines, the last one bad", lines(MOST_LINES, "x"), "refused 5;"),
         ("513 lines, the last one out of range", lines(MOST_LINES, "[1,5,3,4]\n"), "refused 5;"),
-        ("512 lines, the last one bad", lines(MOST_LINES - 1, "x"), "refused 8 at 512;"),
-        ("513 lines, the one before bad", lines(MOST_LINES - 1, "[1,5,3,4]\nx\n"), "refused 9 at 512;"),
+        ("512 lines, the last one bad", lines(MOST_LINES - 1, "x"), "refused 8 at line 512;"),
+        ("513 lines, the one before bad", lines(MOST_LINES - 1, "[1,5,3,4]\nx\n"), "refused 9 at line 512;"),
         ("as many bytes", padded(MOST_BYTES, good, good), "[1,2,3,4];"),
-        ("as many bytes, the last line bad", padded(MOST_BYTES, good, bad), "refused 8 at 2;"),
+        ("as many bytes, the last line bad", padded(MOST_BYTES, good, bad), "refused 8 at line 2;"),
         ("a byte too many", padded(MOST_BYTES + 1, good, good), "refused 5;"),
         ("a byte too many, the last line bad", padded(MOST_BYTES + 1, good, bad), "refused 5;"),
         ("a byte too many, the first line bad", padded(MOST_BYTES + 1, bad, good), "refused 5;"),

@@ -1,6 +1,6 @@
 //! What the program writes for a stream.
 
-use crate::base::answer::{ACCEPTED, BAD_LENGTH, BAD_RECORD};
+use crate::base::answer::{Refusal, ACCEPTED, BAD_LENGTH, BAD_RECORD};
 use crate::base::roles::{plain, Rect, Role};
 use crate::base::words;
 use crate::kinds::common::question::MOST_RECTS;
@@ -20,8 +20,8 @@ pub fn marked(mark: [u8; 2], rect: Rect) -> Vec<u8> {
     [&mark[..], rect.map(|x| x.to_bits().to_le_bytes()).as_flattened()].concat()
 }
 
-pub fn refused(number: u8) -> String {
-    format!("refused {number}\n")
+pub fn refused(refusal: impl Into<Refusal>) -> String {
+    format!("refused {}\n", refusal.into())
 }
 
 /// All that the program writes for this standard input.
@@ -40,17 +40,17 @@ pub fn record_read(bytes: &[u8]) -> String {
     }
 }
 
-/// The rectangles of the records, or the number of the first fault.
-fn all_records(bytes: &[u8]) -> Result<Vec<Rect>, u8> {
+/// The rectangles of the records, or the first fault. Where it is a rectangle's, it says which record that is.
+fn all_records(bytes: &[u8]) -> Result<Vec<Rect>, Refusal> {
     let mut rects = Vec::new();
     for record in bytes.chunks(RECORD) {
         let rect = numbers_of(record).ok_or(BAD_RECORD)?;
         if rects.len() == MOST_RECTS {
-            return Err(BAD_LENGTH);
+            return Err(BAD_LENGTH.into());
         }
         match Role::Rect.fault(&rect) {
             ACCEPTED => rects.push(rect),
-            number => return Err(number),
+            number => return Err(Refusal::at(number, rects.len())),
         }
     }
     Ok(rects)

@@ -2,7 +2,7 @@
 //! 0 to 8 records, one in 50 is of 500 to 513, one in 100 of 514 or more.
 
 use super::answer::{marked, record, MARK, RECORD};
-use crate::base::answer::NOT_VALID;
+use crate::base::answer::WHY_NOT_VALID;
 use crate::base::rng::Rng;
 use crate::base::roles::REACH;
 use crate::draw::{bad_rect, OUTSIDE};
@@ -57,7 +57,8 @@ const DAMAGES: &[(&str, Damage)] = &[
         change(bytes, rng, |record, rng| put(record, rng.below(4), bits));
     }),
     ("a rectangle that is not valid", |bytes, rng| {
-        let rect = bad_rect(rng, NOT_VALID);
+        let number = rng.pick(&WHY_NOT_VALID);
+        let rect = bad_rect(rng, number);
         change(bytes, rng, |record, _| record.copy_from_slice(&marked(MARK, rect)));
     }),
     ("any byte another", |bytes, rng| {

@@ -36,11 +36,14 @@ pub const PROGRAM: Program = Program {
     checks: CHECKS,
 };
 
-const KINDS: &[&str] =
-    &["pieces 0", "pieces 1", "pieces 2", "pieces 3+", "refused 1", "refused 2", "refused 5", "refused 7"];
+const KINDS: &[&str] = &[
+    "pieces 0", "pieces 1", "pieces 2", "pieces 3+", "refused 1", "refused 5", "refused 7", "refused 21",
+    "refused 22", "refused 23",
+];
 
+/// By the first two words: of a refusal, its number, whichever record it is.
 fn kind(answer: &str) -> &'static str {
-    let first = answer.lines().next().unwrap_or("");
+    let first = answer.split_ascii_whitespace().take(2).collect::<Vec<_>>().join(" ");
     KINDS.iter().find(|kind| **kind == first).unwrap_or(&"pieces 3+")
 }
 
@@ -58,10 +61,10 @@ fn streams_as_lists() -> Tried {
         numbers.truncate(numbers.len() / 4 * 4);
         let bytes: Vec<u8> = rects(&numbers).into_iter().flat_map(record).collect();
         let list = Question { room: needed(&numbers), numbers }.answer();
-        // The stream has the same words, and one more before; of a refusal the number alone.
-        let expected = match list.refusal {
+        // The stream has the same words, and one more before; of a refusal the number and the entry alone.
+        let expected = match list.refusal.number {
             ACCEPTED => format!("pieces{}", list.words),
-            number => format!("refused {number}"),
+            _ => format!("refused {}", list.refusal),
         };
         let stream = answer(&bytes).split_ascii_whitespace().collect::<Vec<_>>().join(" ");
         tried.hold(stream == expected, "the stream answers", || format!("{stream:?}, the list {expected:?}"));

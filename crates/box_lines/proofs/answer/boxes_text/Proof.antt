@@ -69,8 +69,8 @@ listed-requires c κs =
 enum-known-g-2 : tie.Need-enum-known-g-2
 enum-known-g-2 c = search needs
 
-write-refusal-at-requires : tie.Need-write-refusal-at-requires
-write-refusal-at-requires c κs = search needs
+write-refusal-at-line-requires : tie.Need-write-refusal-at-line-requires
+write-refusal-at-line-requires c κs = search needs
 
 enum-told-2 : tie.Need-enum-told-2
 enum-told-2 c = search needs
@@ -112,7 +112,7 @@ returns-3 c =
     let g = c .before .before .before .before .before .before .before .before .gather in
     let x = c .before .before .before .before .before .g2 .given in
     let t = fault-text (a .s .now) (g .result) (x .0 .0) (x .0 .1 .0) (g .last .1 .0) (g .ensures) (x .1) (a .out .now) in
-    let w = c .before .before .write-refusal-at in
+    let w = c .before .before .write-refusal-at-line in
     (w .ensures .0 ∙ t .0, w .ensures .1 ∙ t .1)
 
 same-length-4 : tie.Need-same-length-4
@@ -141,7 +141,7 @@ boxes-text-spec =
     slice-aggregate-listed
     listed-requires
     enum-known-g-2
-    write-refusal-at-requires
+    write-refusal-at-line-requires
     enum-told-2
     write-refusal-requires-2
     same-length

@@ -1,7 +1,7 @@
 -- `region::region::common_region`: the list's length is refused by the promise's own test; the rest is what `region_sized` promises. Assumes nothing.
 use native.Mathlib.Omega.{arith}
 use lib.ListN.{length}
-use Rattle.region.proofs.Cases.{odd, long, bad-list, refused}
+use Rattle.region.proofs.Cases.{odd, long, bad-list, no-list, refused}
 use borrow.Author.Needs.{needs}
 use Rattle.region.proofs.region.common_region.Statement.{statement}
 use Rattle.region.proofs.region.common_region.Tie as tie
@@ -11,14 +11,16 @@ returns c =
     let start = c .before .before .before in
     let l = start .args .list .now in
     let o = start .args .out .now in
-    refused l o 5 (bad-list l (length o) (odd l (c .if1 .taken))) (λ z. omega arith)
+    let w = odd l (c .if1 .taken) in
+    refused l o 5 0 (bad-list l (length o) w) (λ z. omega arith) (no-list l w)
 
 returns-2 : tie.Need-returns-2
 returns-2 c =
     let start = c .before .before .before .before in
     let l = start .args .list .now in
     let o = start .args .out .now in
-    refused l o 5 (bad-list l (length o) (long l (c .if2 .taken))) (λ z. omega arith)
+    let w = long l (c .if2 .taken) in
+    refused l o 5 0 (bad-list l (length o) w) (λ z. omega arith) (no-list l w)
 
 region-sized-requires : tie.Need-region-sized-requires
 region-sized-requires c κs = search needs

@@ -55,7 +55,7 @@ returns-2 c =
     let m : at-fitting .fitting .result ≡ a .n = omega (arith, t .few, c .if1 .left) in
     record {
       fit = λ h. (
-        ap (λ (i : ℕ). pieces 0 i) (sym e),
+        ap pieces (sym e),
         at-write .write-out .ensures ∙ ap (λ (i : ℕ). numbersOf (across (a .b) (take i d)) ++ drop (4 * i) (a .out .now)) m
             ∙ ap (λ (i : ℕ). numbersOf (across (a .b) (take (a .n) d)) ++ drop (4 * i) (a .out .now)) (sym e),
       );

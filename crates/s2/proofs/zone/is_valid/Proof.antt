@@ -5,9 +5,7 @@ use Rattle.s2.proofs.zone.is_valid.Tie as tie
 
 returns : tie.Need-returns
 unfolding isValid
-returns c =
-    let at-parts = c .before .before .before in
-    simp (← c .agree .ensures, ← c .before .is-empty2 .ensures, ← c .before .before .is-empty .ensures, ← at-parts .is-valid .ensures, ← at-parts .before .before .is-latitude .ensures)
+returns c = simp (← c .has-like-parts .ensures, ← c .before .is-valid .ensures, ← c .before .before .has-latitudes .ensures)
 
 pub is-valid-spec : {M : Type 1} → statement M
-is-valid-spec = tie.close (tie.spec (λ c κs. tt) (λ c κs. tt) (λ c κs. tt) (λ c κs. tt) (λ c κs. tt) returns)
+is-valid-spec = tie.close (tie.spec (λ c κs. tt) (λ c κs. tt) (λ c κs. tt) returns)

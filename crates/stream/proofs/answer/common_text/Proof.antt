@@ -5,7 +5,7 @@ use Prim.Native.Nat.{ℕ, _*_}
 use native.Mathlib.Omega.{arith}
 use lib.ListN.{length}
 use lib.Seq.{length-take-le}
-use Rattle.text.specs.Answers.{wrote, left, wroteRefusal, leftRefusal}
+use Rattle.text.specs.Answers.{wrote, left}
 use Rattle.stream.proofs.Answers.{taken, numbers-are, fault-is, text-listed, text-refused}
 use borrow.Author.Needs.{needs}
 use Rattle.stream.proofs.answer.common_text.Statement.{statement}
@@ -33,8 +33,8 @@ listed-requires c κs =
     let k = c .before .before .before .before .before .gather in
     taken _ _ (numbers-are _ (k .result) (k .last .1 .0) (k .ensures) (c .before .before .match .keys1))
 
-write-refusal-requires : tie.Need-write-refusal-requires
-write-refusal-requires c κs = search needs
+write-fault-requires : tie.Need-write-fault-requires
+write-fault-requires c κs = c .before .before .before .before .gather .ensures .few
 
 same-length : tie.Need-same-length
 same-length c = search needs
@@ -51,12 +51,13 @@ same-length-2 : tie.Need-same-length-2
 same-length-2 c = search needs
 
 returns-2 : tie.Need-returns-2
-unfolding wroteRefusal leftRefusal
 returns-2 c =
-    let k = c .before .before .before .before .before .before .before .gather in
-    let x = c .before .before .write-refusal in
-    let o = c .before .before .before .before .before .before .before .before .before .before .before .args .out .now in
-    let e = text-refused _ _ (fault-is _ (k .result) (k .last .1 .0) (k .ensures) (c .before .before .before .before .match .rest .1)) in
+    let at-match = c .before .before .before .before in
+    let at-gather = at-match .before .before .before in
+    let k = at-gather .gather in
+    let x = c .before .before .write-fault in
+    let o = at-gather .before .before .before .before .args .out .now in
+    let e = text-refused _ _ _ (fault-is _ (k .result) (k .last .1 .0) (k .ensures) (at-match .match .rest .1)) in
     (x .ensures .0 ∙ ap (λ (t : List ℕ). wrote t (length o)) e, x .ensures .1 ∙ ap (λ (t : List ℕ). left t o) e)
 
 pub common-text-spec : {M : Type 1} → statement M
@@ -69,7 +70,7 @@ common-text-spec =
     array-share-prefix-list
     slice-aggregate-listed
     listed-requires
-    write-refusal-requires
+    write-fault-requires
     same-length
     returns
     same-length-2

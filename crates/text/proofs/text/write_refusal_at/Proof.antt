@@ -1,27 +1,22 @@
--- `text::text::write_refusal_at`: by the test of the line's number. Assumes nothing.
+-- `text::text::write_refusal_at`: the words that are lent are those of the text. Assumes nothing.
 use borrow.Author.Needs.{needs}
-use borrow.Author.Tests.{lt-ltb, le-ltb}
+use Rattle.text.specs.Text.{refusedAtText}
 use Rattle.text.specs.Answers.{wroteRefusalAt, leftRefusalAt}
 use Rattle.text.proofs.text.write_refusal_at.Statement.{statement}
 use Rattle.text.proofs.text.write_refusal_at.Tie as tie
 
-write-at-requires : tie.Need-write-at-requires
-write-at-requires c κs = search needs
+slice-aggregate-write-where : tie.Need-slice-aggregate-write-where
+slice-aggregate-write-where c = search needs
+
+write-where-requires : tie.Need-write-where-requires
+write-where-requires c κs = search needs
 
 same-length : tie.Need-same-length
 same-length c = search needs
 
 returns : tie.Need-returns
-unfolding wroteRefusalAt leftRefusalAt
-returns c =
-    let h = lt-ltb (c .before .before .before .before .before .before .args .line) 1000 (c .before .before .before .before .if1 .taken) in
-    (simp h (c .before .before .write-at .ensures .0), simp h (c .before .before .write-at .ensures .1))
-
-returns-2 : tie.Need-returns-2
-unfolding wroteRefusalAt leftRefusalAt
-returns-2 c =
-    let h = le-ltb (c .before .before .args .line) 1000 (c .if1 .left) in
-    (simp h, simp h)
+unfolding wroteRefusalAt leftRefusalAt refusedAtText
+returns c = c .before .before .write-where .ensures
 
 pub write-refusal-at-spec : {M : Type 1} → statement M
-write-refusal-at-spec = tie.close (tie.spec write-at-requires same-length returns returns-2)
+write-refusal-at-spec = tie.close (tie.spec slice-aggregate-write-where write-where-requires same-length returns)
