@@ -20,14 +20,15 @@ use Rattle.lists.specs.Refused.{ofRect, firstRefused}
 use Rattle.entries.proofs.Lengths as lengths
 use Rattle.lists.proofs.Doubles.{all-valid}
 use Rattle.region.specs.declared.region.Pieces.{Pieces}
+use Rattle.region.specs.declared.region.Listed.{Listed}
 use Rattle.region.specs.Region.{across}
 use Rattle.region.specs.Answers.{piecesOf, refusalOf, entryOf, answer, left, Promised}
-use Rattle.region.specs.Inside.{IsWritten}
+use Rattle.region.specs.Inside.{IsWritten, IsListed}
 use Rattle.region.proofs.Listed.{listed-is}
 
 -- so many pieces under 0; none under the number n at the entry k
-abbrev pub pieces : ℕ → Pieces
-pieces m = record { refusal = 0; count = m; entry = 0 }
+abbrev pub pieces : ℕ → Listed
+pieces m = record { refusal = 0; count = m }
 
 abbrev pub none : ℕ → ℕ → Pieces
 none n k = record { refusal = n; count = 0; entry = k }
@@ -86,20 +87,23 @@ module _ (l out : List Float) where
       record { answers = simp (e, z, i); leaves = simp (e, z); lists = λ t. absurd (h t) }
 
   -- where the pieces that are due were written, or did not fit
-  pub listed : ((i : ℕ) → T (fits binary64 (getD l i nan))) → whole 4 512 l ≡ true → firstRefused (rectsOf l) ≡ 0 → (r : Pieces) (last : List Float) → IsWritten (piecesOf l) out r last
-      → Promised l out r last
+  pub listed : ((i : ℕ) → T (fits binary64 (getD l i nan))) → whole 4 512 l ≡ true → firstRefused (rectsOf l) ≡ 0 → (r : Listed) (last : List Float) → IsWritten (piecesOf l) out r last
+      → IsListed l out r last
   unfolding answer left
   listed d w a r last p = go (leb (4 * length (piecesOf l)) (length out)) refl
     where
-      go : (t : Bool) → leb (4 * length (piecesOf l)) (length out) ≡ t → Promised l out r last
+      with-entry : Listed → Pieces
+      with-entry x = record { refusal = x .refusal; count = x .count; entry = entryOf l }
+
+      go : (t : Bool) → leb (4 * length (piecesOf l)) (length out) ≡ t → IsListed l out r last
       go true h =
           let k = leb-true (4 * length (piecesOf l)) (length out) h in
           let z : refusalOf l (length out) ≡ 0 = room-enough l (length out) w a (length (piecesOf l)) refl k in
-          record { answers = p .fit k .0 ∙ simp (z, none-of l w a); leaves = p .fit k .1 ∙ simp z; lists = λ t. unfold piecesOf in (listed-is (rectsOf l) (all-valid l d a)) }
+          record { answers = ap with-entry (p .fit k .0) ∙ simp z; leaves = p .fit k .1 ∙ simp z; lists = λ t. unfold piecesOf in (listed-is (rectsOf l) (all-valid l d a)) }
       go false h =
           let k = leb-false (4 * length (piecesOf l)) (length out) h in
           let z : refusalOf l (length out) ≡ 6 = no-room l (length out) w a (length (piecesOf l)) refl k in
-          record { answers = p .none k .0 ∙ simp (z, none-of l w a); leaves = p .none k .1 ∙ simp z; lists = λ t. absurd (six (sym (ap (λ (x : Pieces). x .refusal) (p .none k .0)) ∙ t)) }
+          record { answers = ap with-entry (p .none k .0) ∙ simp z; leaves = p .none k .1 ∙ simp z; lists = λ t. absurd (six (sym (ap (λ (x : Listed). x .refusal) (p .none k .0)) ∙ t)) }
         where
           six : _≡_ {A = ℕ} 6 0 → ⊥
           six e = omega (arith, e)

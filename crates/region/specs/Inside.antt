@@ -16,9 +16,9 @@ use Rattle.lists.specs.Refused.{firstRefused}
 use Rattle.arcs.specs.Kinds.{risen, crossing}
 use Rattle.region.specs.declared.reading.Arcs.{Arcs}
 use Rattle.region.specs.declared.finding.Found.{Found}
-use Rattle.region.specs.declared.region.Pieces.{Pieces}
+use Rattle.region.specs.declared.region.Listed.{Listed}
 use Rattle.region.specs.Region.{lngs, band, across}
-use Rattle.region.specs.Answers.{piecesOf}
+use Rattle.region.specs.Answers.{piecesOf, entryOf, Promised}
 
 -- whole rectangles, at most 512, with room for an arc of each, and for two pieces more
 pub record Room (list west east lo hi : List Float) : Type 0 where
@@ -50,6 +50,10 @@ pub record Fitted (n room r : ℕ) : Type 0 where
   pub fits : 4 * r ≤ room
 
 -- the pieces ps are in the output, with what was there behind them, or do not fit
-pub record IsWritten (ps : List Rect) (out : List Float) (r : Pieces) (out' : List Float) : Type 0 where
-  pub fit : 4 * length ps ≤ length out → (r ≡ record { refusal = number accepted; count = length ps; entry = 0 }) × (out' ≡ numbersOf ps ++ drop (4 * length ps) out)
-  pub none : length out < 4 * length ps → (r ≡ record { refusal = number noRoom; count = 0; entry = 0 }) × (out' ≡ out)
+pub record IsWritten (ps : List Rect) (out : List Float) (r : Listed) (out' : List Float) : Type 0 where
+  pub fit : 4 * length ps ≤ length out → (r ≡ record { refusal = number accepted; count = length ps }) × (out' ≡ numbersOf ps ++ drop (4 * length ps) out)
+  pub none : length out < 4 * length ps → (r ≡ record { refusal = number noRoom; count = 0 }) × (out' ≡ out)
+
+-- with the entry of the list l beside it, r is what is promised
+abbrev pub IsListed : List Float → List Float → Listed → List Float → Type 0
+IsListed l out r out' = Promised l out (record { refusal = r .refusal; count = r .count; entry = entryOf l }) out'

@@ -14,8 +14,9 @@ ghost use lib.ListN.{length, take, drop};
 ghost use Rattle.lists.specs.Rects.{numbersOf};
 ghost use Rattle.sort.specs.Arrays.{zip};
 ghost use Rattle.region.specs.Region.{across};
-ghost use Rattle.region.specs.Answers.{Promised};
-ghost use Rattle.region.specs.Inside.{Room, Fitted, IsWritten};
+ghost use Rattle.consts.specs.Refusal.{number, accepted};
+ghost use Rattle.region.specs.Answers.{entryOf, Promised};
+ghost use Rattle.region.specs.Inside.{Room, Fitted, IsWritten, IsListed};
 
 // How many pieces were listed; none under a refusal. Where a rectangle is refused, its entry is told,
 // counted from zero; beside any other number the entry is 0 and means nothing.
@@ -24,6 +25,12 @@ pub struct Pieces {
     pub refusal: u8,
     pub count: usize,
     pub entry: usize,
+}
+
+// How many pieces were listed, or by which number the list is refused: before the entry is looked for.
+struct Listed {
+    refusal: u8,
+    count: usize,
 }
 
 // How many of n pieces are written into room for so many numbers: all, or none where they do not fit.
@@ -53,29 +60,26 @@ fn write_out(lo: &[f64], hi: &[f64], n: usize, b: Line, out: &mut [f64])
 }
 
 // The first n pieces, with the latitude band b, to the start of `out` where they all have room.
-fn list_pieces(lo: &[f64], hi: &[f64], n: usize, b: Line, out: &mut [f64]) -> Pieces
+fn list_pieces(lo: &[f64], hi: &[f64], n: usize, b: Line, out: &mut [f64]) -> Listed
     requires { ⌜ (n ≤ 1024) × (n ≤ length (now lo)) × (length (now lo) ≡ length (now hi)) ⌝ }
     ensures { λ r. ⌜ IsWritten (across b (take n (zip (now (lo .entry)) (now (hi .entry))))) (now (out .entry)) r (now (out .exit)) ⌝ }
 {
     let k = fitting(n, out.len());
     write_out(lo, hi, k, b, out);
     if k < n {
-        return Pieces {
+        return Listed {
             refusal: NO_ROOM,
             count: 0,
-            entry: 0,
         };
     }
-    Pieces {
+    Listed {
         refusal: ACCEPTED,
         count: n,
-        entry: 0,
     }
 }
 
 // The common region of a list of whole rectangles, with room for its arcs in `west` and `east` and for the
-// pieces in `lo` and `hi`. Which entry is refused is looked for only where one is: so a list that is taken
-// pays nothing for it.
+// pieces in `lo` and `hi`.
 fn region_in(
     list: &[f64],
     west: &mut [f64],
@@ -83,29 +87,34 @@ fn region_in(
     lo: &mut [f64],
     hi: &mut [f64],
     out: &mut [f64],
-) -> Pieces
+) -> Listed
     requires { ⌜ Room (now list) (now west) (now east) (now lo) (now hi) ⌝ }
-    ensures { λ r. ⌜ Promised (now (list .entry)) (now (out .entry)) r (now (out .exit)) ⌝ }
+    ensures { λ r. ⌜ IsListed (now (list .entry)) (now (out .entry)) r (now (out .exit)) ⌝ }
 {
     let f = find(list, west, east, lo, hi);
     if f.refusal != ACCEPTED {
-        let first = first_refused(list);
-        return Pieces {
-            refusal: first.refusal,
+        return Listed {
+            refusal: f.refusal,
             count: 0,
-            entry: first.entry,
         };
     }
     list_pieces(lo, hi, f.count, f.lat, out)
 }
 
 // The common region of a list of whole rectangles. The arrays that the pieces are found in have room for one
-// arc and one piece a rectangle; a short list takes short ones.
-fn region_sized(list: &[f64], out: &mut [f64]) -> Pieces
+// arc and one piece a rectangle; a short list takes short ones, since an array costs what it takes to fill it.
+fn region_sized(list: &[f64], out: &mut [f64]) -> Listed
     requires { ⌜ (length (now list) % 4 ≡ 0) × (length (now list) ≤ 2048) ⌝ }
-    ensures { λ r. ⌜ Promised (now (list .entry)) (now (out .entry)) r (now (out .exit)) ⌝ }
+    ensures { λ r. ⌜ IsListed (now (list .entry)) (now (out .entry)) r (now (out .exit)) ⌝ }
 {
     let n = list.len();
+    if n <= 16 {
+        let mut west = [0.0; 4];
+        let mut east = [0.0; 4];
+        let mut lo = [0.0; 6];
+        let mut hi = [0.0; 6];
+        return region_in(list, &mut west, &mut east, &mut lo, &mut hi, out);
+    }
     if n <= 64 {
         let mut west = [0.0; 16];
         let mut east = [0.0; 16];
@@ -125,6 +134,19 @@ fn region_sized(list: &[f64], out: &mut [f64]) -> Pieces
     let mut lo = [0.0; 514];
     let mut hi = [0.0; 514];
     region_in(list, &mut west, &mut east, &mut lo, &mut hi, out)
+}
+
+// The entry that is refused, of a list of whole rectangles whose number is `refusal`. It is looked for only
+// where the list is refused: so a list that is taken pays nothing for it.
+fn entry_in(list: &[f64], refusal: u8) -> usize
+    requires { ⌜ (length (now list) % 4 ≡ 0) × (length (now list) ≤ 2048) × (refusal ≡ number accepted → entryOf (now list) ≡ 0) ⌝ }
+    ensures { λ r. ⌜ r ≡ entryOf (now (list .entry)) ⌝ }
+{
+    if refusal != ACCEPTED {
+        let first = first_refused(list);
+        return first.entry;
+    }
+    0
 }
 
 // The common region of the rectangles in `list`, to the start of `out`.
@@ -152,5 +174,10 @@ pub fn common_region(list: &[f64], out: &mut [f64]) -> Pieces
             entry: 0,
         };
     }
-    region_sized(list, out)
+    let r = region_sized(list, out);
+    Pieces {
+        refusal: r.refusal,
+        count: r.count,
+        entry: entry_in(list, r.refusal),
+    }
 }

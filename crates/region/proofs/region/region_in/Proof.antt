@@ -1,23 +1,18 @@
 -- `region::region::region_in`: an entry is refused, or what was found is listed. Assumes nothing.
-use mathlib.Core.Path.{_≡_, sym, ap, _∙_, subst}
+use mathlib.Core.Path.{refl, sym, _∙_, subst}
 use mathlib.Core.List.{List}
 use native.Mathlib.Omega.{arith}
 use lib.ListN.{length}
 use Rattle.s2.specs.declared.rect.Rect.{Rect}
-use Rattle.entries.specs.declared.records.First.{First}
-use Rattle.lists.specs.Rects.{rectsOf}
-use Rattle.lists.specs.Refused.{firstRefused}
+use Rattle.region.specs.Answers.{entryOf}
 use Rattle.region.specs.Inside.{IsWritten}
-use Rattle.region.proofs.Cases.{good, bad-entry, entry-of, refused, listed}
+use Rattle.region.proofs.Cases.{good, bad-entry, refused, listed}
 use borrow.Author.Needs.{needs}
 use Rattle.region.proofs.region.region_in.Statement.{statement}
 use Rattle.region.proofs.region.region_in.Tie as tie
 
 find-requires : tie.Need-find-requires
 find-requires c κs = c .before .before .before .before .before .before .before .before .before .before .pre
-
-first-refused-requires : tie.Need-first-refused-requires
-first-refused-requires c κs = search needs
 
 same-length : tie.Need-same-length
 same-length c = search needs
@@ -33,17 +28,14 @@ same-length-4 c = search needs
 
 returns : tie.Need-returns
 returns c =
-    let at-test = c .before in
-    let at-find = at-test .before .before .before .before .before .before .before .before .before .before in
+    let at-find = c .before .before .before .before .before .before .before .before .before .before in
     let start = at-find .before .before .before .before .before .before .before .before .before .before .before in
     let l = start .args .list .now in
     let o = start .args .out .now in
-    let f = at-find .find .ensures .refusal-is in
-    let x = c .first-refused in
-    let n : x .result .refusal ≡ firstRefused (rectsOf l) = ap (λ (y : First). y .refusal) (x .ensures) in
+    let x = at-find .find in
+    let n = x .result .refusal in
     let w = good l (start .pre .whole) (start .pre .most) in
-    let z : x .result .refusal ≡ 0 → ⊥ = λ h. at-test .if1 .taken (f ∙ sym n ∙ h) in
-    refused l o (x .result .refusal) (x .result .entry) (bad-entry l (length o) w (x .result .refusal) n z) z (entry-of l w (sym (x .ensures)))
+    refused l o n (entryOf l) (bad-entry l (length o) w n (x .ensures .refusal-is) (c .if1 .taken)) (c .if1 .taken) refl
 
 list-pieces-requires : tie.Need-list-pieces-requires
 list-pieces-requires c κs =
@@ -91,7 +83,6 @@ region-in-spec =
     tie.close
     (tie.spec
     find-requires
-    first-refused-requires
     same-length
     same-length-2
     same-length-3
