@@ -1,5 +1,5 @@
--- Examples of the common region, computed: the answer, and the output left. The output comes in as nines. Document 01's three that are marked P are in the
--- crate table, in these words. Assumes nothing.
+-- Examples of the common region, computed: the answer, and the output left. The output comes in as nines. Document 01's three that are marked P are
+-- among them; the crate table lists them. Assumes nothing.
 use mathlib.Core.Path.{_≡_, refl}
 use mathlib.Core.List.{List, [], _∷_}
 use Prim.Native.Nat.{ℕ}
@@ -42,7 +42,30 @@ pub record Gives (l : List Float) (n : ℕ) (o : List Float) : Type 0 where
   pub answers : answer l 9 ≡ record { refusal = 0; count = n; entry = 0 }
   pub leaves : left l (four-nines (four-nines (NINE ∷ []))) ≡ o
 
+-- ---- those of document 01's table
+-- common of [-1, 1] and [1, -1]: [-1, -1], [1, 1]
+abbrev pub BothEnds : Type 0
+BothEnds =
+    Gives (zone 0xBFF0000000000000 0x3FF0000000000000 (zone 0x3FF0000000000000 0xBFF0000000000000 [])) 2
+    (zone 0xBFF0000000000000 0xBFF0000000000000 (zone 0x3FF0000000000000 0x3FF0000000000000 (NINE ∷ [])))
+
+-- common of [2, 1] and [0.5, 0.25]: [0.5, 1], then [2, 0.25]
+abbrev pub OverTheSeam : Type 0
+OverTheSeam =
+    Gives (zone 0x4000000000000000 0x3FF0000000000000 (zone 0x3FE0000000000000 0x3FD0000000000000 [])) 2
+    (zone 0x3FE0000000000000 0x3FF0000000000000 (zone 0x4000000000000000 0x3FD0000000000000 (NINE ∷ [])))
+
+-- common of FULL and [C00921FB54442D17, PI]: the second alone
+abbrev pub NearlyFull : Type 0
+NearlyFull =
+    Gives (zone 0xC00921FB54442D18 0x400921FB54442D18 (zone 0xC00921FB54442D17 0x400921FB54442D18 [])) 1
+    (zone 0xC00921FB54442D17 0x400921FB54442D18 (four-nines (NINE ∷ [])))
+
+-- ---- these and others
 pub record CommonRegions : Type 0 where
+  pub both-ends : BothEnds
+  pub over-the-seam : OverTheSeam
+  pub nearly-full : NearlyFull
   -- an empty list: the full rectangle, once
   pub no-list : Gives [] 1 (rect 0xBFF921FB54442D18 0x3FF921FB54442D18 0xC00921FB54442D18 0x400921FB54442D18 (four-nines (NINE ∷ [])))
   -- a list of one empty rectangle: no pieces
@@ -57,6 +80,9 @@ pub common-regions : CommonRegions
 unfolding answer left refusalOf entryOf wholeLength firstNumber firstEntry firstRefusal firstFault piecesOf rectsOf numbersOf asReadAll region bandFrom lngs across common steps step whole clip endAt cut insert sooner before someHolds readOne faultOf rectInReach asRead latitude line.isEmpty line.intersection circle.isValid circle.isEmpty circle.isFull inReach plain min max ofBits Ieee.lt Ieee.le Ieee.eq
 common-regions =
     record {
+      both-ends = record { answers = refl; leaves = refl };
+      over-the-seam = record { answers = refl; leaves = refl };
+      nearly-full = record { answers = refl; leaves = refl };
       no-list = record { answers = refl; leaves = refl };
       one-empty = record { answers = refl; leaves = refl };
       room-for-one = refl;

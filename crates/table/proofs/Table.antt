@@ -1,7 +1,7 @@
--- Document 01's boundary examples marked P: a single table, each line computed here by the definitions that the contracts cite, rounding included.
+-- Document 01's boundary examples marked P: a single table, each line computed by the definitions that the contracts cite, rounding included; those of the
+-- common region beside its other examples, the rest here.
 -- Longitudes are in radians; numbers are named here and given by their bits. Assumes nothing.
 use mathlib.Core.Path.{_≡_, refl}
-use mathlib.Core.List.{[], _∷_}
 use lib.Ieee as Ieee
 use lib.Ieee.{Float, binary64, ofBits, lt, le, eq}
 use Rattle.order.specs.Choice.{min, max}
@@ -20,14 +20,7 @@ use Rattle.s2.specs.Zone as rect
 use Rattle.s2.specs.Zone.{at, box}
 use Rattle.s2.specs.Reading as rects
 use Rattle.s2.specs.Answers.{rectAnswer, vertex, expanded}
-use Rattle.entries.specs.Lists.{wholeLength}
-use Rattle.lists.specs.Rects.{rectsOf, numbersOf, asReadAll}
-use Rattle.entries.specs.First.{firstNumber, firstEntry}
-use Rattle.arcs.specs.CommonArcs as places
-use Rattle.arcs.specs.Clipping as pieces
-use Rattle.region.specs.Region as region
-use Rattle.region.specs.Answers as answers
-use Rattle.region.proofs.Examples.{zone, NINE, four-nines, Gives}
+use Rattle.region.proofs.Examples.{BothEnds, OverTheSeam, NearlyFull, common-regions}
 
 abbrev ONE : Float
 ONE = ofBits binary64 0x3FF0000000000000
@@ -59,29 +52,6 @@ origin-expanded : OriginExpanded
 unfolding
     expanded rects.readWithMargins rects.readOne rects.faultOf firstFault rects.readMargins rects.asRead rects.rectInReach readNumber firstRefusal inReach plain rect.latitude rect.expanded line.expanded line.isEmpty line.intersection circle.expanded isValid isEmpty isFull len min max ofBits lt le eq Ieee.add Ieee.sub Ieee.mul
 origin-expanded = refl
-
--- common of [-1, 1] and [1, -1]: [-1, -1], [1, 1]
-abbrev BothEnds : Type 0
-BothEnds =
-    Gives (zone 0xBFF0000000000000 0x3FF0000000000000 (zone 0x3FF0000000000000 0xBFF0000000000000 [])) 2
-    (zone 0xBFF0000000000000 0xBFF0000000000000 (zone 0x3FF0000000000000 0x3FF0000000000000 (NINE ∷ [])))
-
--- common of [2, 1] and [0.5, 0.25]: [0.5, 1], then [2, 0.25]
-abbrev OverTheSeam : Type 0
-OverTheSeam =
-    Gives (zone 0x4000000000000000 0x3FF0000000000000 (zone 0x3FE0000000000000 0x3FD0000000000000 [])) 2
-    (zone 0x3FE0000000000000 0x3FF0000000000000 (zone 0x4000000000000000 0x3FD0000000000000 (NINE ∷ [])))
-
--- common of FULL and [C00921FB54442D17, PI]: the second alone
-abbrev NearlyFull : Type 0
-NearlyFull =
-    Gives (zone 0xC00921FB54442D18 0x400921FB54442D18 (zone 0xC00921FB54442D17 0x400921FB54442D18 [])) 1
-    (zone 0xC00921FB54442D17 0x400921FB54442D18 (four-nines (NINE ∷ [])))
-
-common-regions : BothEnds × OverTheSeam × NearlyFull
-unfolding
-    answers.answer answers.left answers.refusalOf answers.entryOf wholeLength firstNumber firstEntry answers.piecesOf rectsOf numbersOf asReadAll region.region region.bandFrom region.lngs region.across pieces.common pieces.steps pieces.step pieces.whole pieces.clip pieces.endAt pieces.cut pieces.insert pieces.sooner pieces.before places.someHolds rects.readOne rects.faultOf rects.rectInReach rects.asRead rect.latitude firstFault firstRefusal inReach plain line.isEmpty line.intersection isValid isEmpty isFull min max ofBits lt le eq
-common-regions = (record { answers = refl; leaves = refl }, record { answers = refl; leaves = refl }, record { answers = refl; leaves = refl })
 
 -- ---- the table
 pub record Table : Type 0 where
@@ -117,8 +87,8 @@ table =
       add-seam = refl;
       read-add-refused = refl;
       origin-full = origin-expanded;
-      common-both-ends = common-regions .0;
-      common-over-the-seam = common-regions .1;
-      common-nearly-full = common-regions .2;
+      common-both-ends = common-regions .both-ends;
+      common-over-the-seam = common-regions .over-the-seam;
+      common-nearly-full = common-regions .nearly-full;
       vertex-255 = λ r. refl;
     }

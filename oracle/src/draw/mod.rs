@@ -7,4 +7,4 @@ pub mod operands;
 pub mod rect;
 
 pub use number::{neighbour, EDGES, OUTSIDE};
-pub use operands::{bad_rect, numbers, outside};
+pub use operands::{bad_rect, numbers, outside, spoil_some};

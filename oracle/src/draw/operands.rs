@@ -64,6 +64,21 @@ fn line(rng: &mut Rng, drawn: &mut Vec<f64>) {
     }
 }
 
+/// Spoils one of so many things: the first, the last or any; now and then a second one too.
+pub fn spoil_some(rng: &mut Rng, count: usize, mut spoil: impl FnMut(&mut Rng, usize)) {
+    if count == 0 {
+        return;
+    }
+    for _ in 0..rng.pick(&[1, 1, 1, 2]) {
+        let at = match rng.below(4) {
+            0 => 0,
+            1 => count - 1,
+            _ => rng.below(count),
+        };
+        spoil(rng, at);
+    }
+}
+
 /// Makes one number one that its role does not take, and each other one now and then. Others become
 /// -0, since what a refusal hands back must keep its bits.
 fn spoil(rng: &mut Rng, takes: &[Role], drawn: &mut [f64]) {

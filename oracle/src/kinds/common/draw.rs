@@ -7,7 +7,7 @@ use super::question::{needed, Question, MOST_NUMBERS, MOST_RECTS};
 use crate::base::answer::OF_RECT;
 use crate::base::rng::Rng;
 use crate::base::roles::{Rect, EMPTY, FULL};
-use crate::draw::{bad_rect, circle, neighbour, rect};
+use crate::draw::{bad_rect, circle, neighbour, rect, spoil_some};
 use crate::kind::SHORT;
 
 /// A question with a list of at most eight entries.
@@ -42,21 +42,12 @@ pub fn long(rng: &mut Rng) -> Question {
     Question { room, numbers }
 }
 
-/// Makes an entry one that is refused: the first, the last or any; now and then a second one too.
+/// Makes an entry one that is refused, now and then two.
 fn spoil(rng: &mut Rng, rects: &mut [Rect]) {
-    let count = rects.len();
-    if count == 0 {
-        return;
-    }
-    for _ in 0..rng.pick(&[1, 1, 1, 2]) {
-        let at = match rng.below(4) {
-            0 => 0,
-            1 => count - 1,
-            _ => rng.below(count),
-        };
+    spoil_some(rng, rects.len(), |rng, at| {
         let number = rng.pick(&OF_RECT);
         rects[at] = bad_rect(rng, number);
-    }
+    });
 }
 
 /// Mostly just room enough, sometimes more, sometimes from none to one short.

@@ -8,7 +8,7 @@ use super::question::{Question, Way, MOST_POINTS};
 use crate::base::answer::{OUT_OF_REACH, WHY_NOT_VALID};
 use crate::base::rng::Rng;
 use crate::base::roles::{Rect, Role};
-use crate::draw::{bad_rect, outside, rect};
+use crate::draw::{bad_rect, outside, rect, spoil_some};
 use crate::kind::SHORT;
 
 /// A question with a list of at most eight points.
@@ -104,20 +104,10 @@ fn onto_circle(x: f64) -> f64 {
     (if turned < -PI { turned + 2.0 * PI } else { turned }).clamp(-PI, PI)
 }
 
-/// Makes a number of one point one that no point has: of the first point, the last one or any; now and
-/// then of a second point too.
+/// Makes a number of a point one that no point has, now and then of two points.
 fn spoil(rng: &mut Rng, numbers: &mut [f64]) {
-    let count = numbers.len() / 2;
-    if count == 0 {
-        return;
-    }
-    for _ in 0..rng.pick(&[1, 1, 1, 2]) {
-        let at = match rng.below(4) {
-            0 => 0,
-            1 => count - 1,
-            _ => rng.below(count),
-        };
+    spoil_some(rng, numbers.len() / 2, |rng, at| {
         let place = rng.below(2);
         numbers[2 * at + place] = outside(rng, Role::LatLng, place);
-    }
+    });
 }
