@@ -20,7 +20,8 @@ use Rattle.s1.specs.Places.{place, holds, strictlyHolds, Place, Valid, I
 use Rattle.s1.proofs.Readings.{num-of, valid-on}
 use Rattle.trials.proofs.Forms.{strictlyHasG, hullG, overlapG, grownG}
 use Rattle.s1.proofs.Spots.{Stands, spot, spot-low, spot-high, spot-few, lt-spot, le-spot, eq-spot}
-use Rattle.trials.proofs.Trials.{Four, Six, Eight, intervals, places, alone, trial₀, trial, twoG, endsG, passG, strictPassG, sharedG, strictSharedG, heldG, someG, inside-all, contains-all, strictly-inside-all, strictly-contains-all, meet-all, apart-all, strictly-meet-all, strictly-apart-all, strictly-has-all, nothing-all, something-all, everything-all, full-all, union-all, union-only-all, intersection-all, intersection-within-all, add-all, pair-all, rest-all, rest-valid-all, swap-valid-all, alike-all, same-all}
+use Rattle.trials.proofs.Trials.{Four, Six, Eight, intervals, places, alone, trial₀, trial, twoG, endsG, passG, strictPassG, sharedG, strictSharedG, heldG, someG}
+use Rattle.trials.proofs.Trials.{inside-all, contains-all, strictly-inside-all, strictly-contains-all, meet-all, apart-all, strictly-meet-all, strictly-apart-all, strictly-has-all, nothing-all, something-all, everything-all, full-all, union-all, union-only-all, intersection-all, intersection-within-all, add-all, pair-all, rest-all, rest-valid-all, swap-valid-all, alike-all, same-all}
 
 -- ---- numbers
 pub num-PI : Num PI ≡ true

@@ -19,7 +19,8 @@ use Rattle.s1.specs.Circle.{ends, FULL, EMPTY, seam, movedBy, widenedTo}
 use Rattle.s1.specs.Reading.{plainEnds, NoMinusEnds, onCircle, readOne, readTwo, readWithPoint}
 use Rattle.s1.specs.Refusals.{Reach, Out, Fine, Bad, OneOut, OneBad, EndsFine, EndsBad, Refusals, Says, Tells, Answers, LineAnswers}
 use Rattle.s1.specs.Answers as answers
-use Rattle.s1.specs.Answers.{circleAnswer, emptyUnder, «new», fromLine, toLine, positiveDistance, fromPointPair, isValid, isFull, isEmpty, isInverted, invert, center, len, complement, complementCenter, fastContains, contains, interiorContains, expanded, add, containsInterval, interiorContainsInterval, intersects, interiorIntersects, union, intersection, directedHausdorffDistance, approxEq, approxEqBy}
+use Rattle.s1.specs.Answers.{isValid, isFull, isEmpty, isInverted, fastContains, contains, interiorContains, containsInterval, interiorContainsInterval, intersects, interiorIntersects, approxEq, approxEqBy}
+use Rattle.s1.specs.Answers.{circleAnswer, emptyUnder, «new», fromLine, toLine, positiveDistance, fromPointPair, invert, center, len, complement, complementCenter, expanded, add, union, intersection, directedHausdorffDistance}
 use Rattle.s1.specs.Places.{holds, strictlyHolds, Place, Valid, OnCircle, Inside, StrictlyInside, Meets, StrictlyMeets, Nothing, Everything}
 use Rattle.s1.proofs.Readings.{valid-reach}
 use Rattle.s1.proofs.Limits.{holds-plain}

@@ -23,7 +23,8 @@ use consts::PI;
 use consts::TURN;
 ghost use mathlib.Core.Path.{_≡_};
 ghost use mathlib.Core.Bool.{cond};
-ghost use Rattle.s1.specs.Circle.{positiveDistance, «new», seam, fromPointPair, isValid, isFull, isEmpty, isInverted, isPoint, invert, center, len, fastContains, contains, containsInterval, interiorContains, interiorContainsInterval, intersects, insideMeets, interiorIntersects, union, intersection, moved, expanded, complement, complementCenter, distanceIfHeld, directedHausdorffDistance, nearEnds, approxEqBy, add, eq};
+ghost use Rattle.s1.specs.Circle.{isValid, isFull, isEmpty, isInverted, isPoint, fastContains, contains, containsInterval, interiorContains, interiorContainsInterval, intersects, insideMeets, interiorIntersects, nearEnds, approxEqBy, eq};
+ghost use Rattle.s1.specs.Circle.{positiveDistance, «new», seam, fromPointPair, invert, center, len, union, intersection, moved, expanded, complement, complementCenter, distanceIfHeld, directedHausdorffDistance, add};
 
 const MINUS_ONE: f64 = -1.0;
 

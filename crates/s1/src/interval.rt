@@ -34,7 +34,8 @@ use consts::YesNo;
 use r1::interval::Answer as LineAnswer;
 use r1::interval::Interval as Line;
 ghost use mathlib.Core.Path.{_≡_};
-ghost use Rattle.s1.specs.Answers.{circleAnswer, emptyUnder, «new», fromLine, toLine, positiveDistance, fromPointPair, isValid, isFull, isEmpty, isInverted, invert, center, len, fastContains, contains, containsInterval, interiorContains, interiorContainsInterval, intersects, interiorIntersects, union, intersection, expanded, complement, complementCenter, directedHausdorffDistance, approxEq, approxEqBy, add, eq};
+ghost use Rattle.s1.specs.Answers.{isValid, isFull, isEmpty, isInverted, fastContains, contains, containsInterval, interiorContains, interiorContainsInterval, intersects, interiorIntersects, approxEq, approxEqBy, eq};
+ghost use Rattle.s1.specs.Answers.{circleAnswer, emptyUnder, «new», fromLine, toLine, positiveDistance, fromPointPair, invert, center, len, union, intersection, expanded, complement, complementCenter, directedHausdorffDistance, add};
 
 // Interval represents a closed interval on a unit circle. Zero-length intervals (where lo == hi)
 // represent single points. If lo > hi then the interval is "inverted". The point at (-1, 0) on the

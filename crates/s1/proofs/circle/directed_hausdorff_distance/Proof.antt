@@ -40,7 +40,16 @@ returns-4 c =
     let at-is-empty = at-if2 .before in
     let at-if1 = at-is-empty .before in
     let at-contains-interval = at-if1 .before in
-    simp (← c .zero-read2 .ensures, ← at-max .max .ensures, ← at-reach-to2 .reach-to2 .ensures, ← at-positive-distance3 .positive-distance3 .ensures, ← at-reach-to .reach-to .ensures, ← at-positive-distance2 .positive-distance2 .ensures, at-if3 .if3 .left, ← at-contains .contains .ensures, ← at-complement-center .complement-center .ensures, at-if2 .if2 .left, ← at-is-empty .is-empty .ensures, at-if1 .if1 .left, ← at-contains-interval .contains-interval .ensures)
+    let longest = at-max .max .ensures in
+    let back = at-reach-to2 .reach-to2 .ensures in
+    let back-from = at-positive-distance3 .positive-distance3 .ensures in
+    let forth = at-reach-to .reach-to .ensures in
+    let forth-from = at-positive-distance2 .positive-distance2 .ensures in
+    let held = at-contains .contains .ensures in
+    let opposite = at-complement-center .complement-center .ensures in
+    let empty = at-is-empty .is-empty .ensures in
+    let whole = at-contains-interval .contains-interval .ensures in
+    simp (← c .zero-read2 .ensures, ← longest, ← back, ← back-from, ← forth, ← forth-from, at-if3 .if3 .left, ← held, ← opposite, at-if2 .if2 .left, ← empty, at-if1 .if1 .left, ← whole)
 
 pub directed-hausdorff-distance-spec : {M : Type 1} → statement M
 directed-hausdorff-distance-spec = tie.close (tie.spec (λ c κs. search needs) returns (λ c κs. search needs) returns-2 (λ c κs. search needs) (λ c κs. search needs) (λ c κs. search needs) (λ c κs. search needs) returns-3 (λ c κs. search needs) (λ c κs. search needs) (λ c κs. search needs) (λ c κs. search needs) (λ c κs. search needs) (λ c κs. search needs) returns-4)
