@@ -20,24 +20,6 @@ returns c =
     let h = le-ltb (c .before .before .before .args .place) 1000 (c .if1 .taken) in
     (simp h, simp h)
 
-width-requires : tie.Need-width-requires
-width-requires c κs = search needs
-
-add-at : tie.Need-add-at
-add-at c = search needs
-
-add-count : tie.Need-add-count
-add-count c = search needs
-
-width-requires-2 : tie.Need-width-requires-2
-width-requires-2 c κs = search needs
-
-add-count-2 : tie.Need-add-count-2
-add-count-2 c = search needs
-
-add-count-3 : tie.Need-add-count-3
-add-count-3 c = search needs
-
 returns-2 : tie.Need-returns-2
 returns-2 c =
     let at-width2 = c .before in
@@ -50,21 +32,6 @@ returns-2 c =
     let l = length-where (a .words .now) (a .n) (a .place) in
     let h : length o < length t = omega (arith, l, at-width2 .width2 .ensures .0, at-width .width .ensures .0) in
     (simp u (wrote-none t (length o) h), simp u (left-none t o h))
-
-slice-aggregate-put-text : tie.Need-slice-aggregate-put-text
-slice-aggregate-put-text c = search needs
-
-put-text-requires : tie.Need-put-text-requires
-put-text-requires c κs = search needs
-
-put-decimal-requires : tie.Need-put-decimal-requires
-put-decimal-requires c κs = search needs
-
-put-head-requires : tie.Need-put-head-requires
-put-head-requires c κs = search needs
-
-same-length : tie.Need-same-length
-same-length c = search needs
 
 returns-3 : tie.Need-returns-3
 returns-3 c =
@@ -93,16 +60,16 @@ write-where-spec =
     tie.close
     (tie.spec
     returns
-    width-requires
-    add-at
-    add-count
-    width-requires-2
-    add-count-2
-    add-count-3
+    (λ c κs. search needs)
+    (λ c. search needs)
+    (λ c. search needs)
+    (λ c κs. search needs)
+    (λ c. search needs)
+    (λ c. search needs)
     returns-2
-    slice-aggregate-put-text
-    put-text-requires
-    put-decimal-requires
-    put-head-requires
-    same-length
+    (λ c. search needs)
+    (λ c κs. search needs)
+    (λ c κs. search needs)
+    (λ c κs. search needs)
+    (λ c. search needs)
     returns-3)
