@@ -1,7 +1,7 @@
 -- The nearest whole number to k / t: it is no further off than a half, at a half it is even, and it is no further off than 0 is.
 -- With k = q * t + r, the three cases are 2 * r below t, above t, and t itself. Assumes nothing.
 use mathlib.Core.Path.{_≡_, refl, sym, ap, _∙_, subst}
-use Prim.Native.Nat.{ℕ, zero, suc, _+_, _-_, _*_, _/_, _%_, _≤_, _<_}
+use Prim.Native.Nat.{ℕ, zero, suc, _+_, _*_, _/_, _%_, _≤_, _<_}
 use native.Mathlib.Nat.{div-add-mod', mod-lt, suc-mul, one-mul, zero-mul}
 use native.Mathlib.Omega.{arith}
 use lib.Arith.{digits-div, digits-mod}
@@ -68,24 +68,15 @@ nearest-near k t h = near-any k t (k / t) (k % t) (sym (div-add-mod' k t)) (mod-
 pub nearest-none : (t : ℕ) → 0 < t → nearest 0 t ≡ 0
 nearest-none t h = let z = zero-mul t in at-below 0 t 0 0 (omega arith) h (omega arith)
 
--- ---- up to 2 t, for a t that is twice h
-module _ (k t h : ℕ) (twice : t ≡ h + h) (above : 0 < h) where
-  pub nearest-0 : k ≤ h → nearest k t ≡ 0
-  nearest-0 l =
-      let z = zero-mul t in
-      by-order (k * 2) t (at-below k t 0 k (omega arith) (omega arith)) (λ b. at-half k t 0 k (omega arith) (omega arith) (omega arith))
+-- ---- up to 2 t, for a t that is twice h: between two odd multiples of h the even multiple there is nearest, and at 3 h, as near to t, 2 t is taken
+module _ (k t h : ℕ) (twice : t ≡ h + h) where
+  pub near-0 : k ≤ h → Near k t 0
+  near-0 u = let z = zero-mul t in record { half = omega arith; tie = λ e. refl; least = omega arith }
 
-  pub nearest-1 : h < k → k < h + t → nearest k t ≡ 1
-  nearest-1 l u =
-      let z = zero-mul t in
-      let o = one-mul t in
-      by-order k t (λ b. at-above k t 0 k (omega arith) b (omega arith)) (λ b. at-below k t 1 (k - t) (omega arith) (omega arith) (omega arith))
+  pub near-1 : h < k → k < h + t → Near k t 1
+  near-1 l u = let o = one-mul t in record { half = omega arith; tie = λ e. absurd (omega arith); least = omega arith }
 
-  pub nearest-2 : h + t ≤ k → k ≤ t + t → nearest k t ≡ 2
-  nearest-2 l u =
-      let o = one-mul t in
-      let w : 2 * t ≡ t + t = suc-mul 1 t ∙ ap (λ (i : ℕ). i + t) o in
-      by-order k (t + t)
-      (λ b.
-      by-order (h + t) k (λ a. at-above k t 1 (k - t) (omega arith) (omega arith) (omega arith)) (λ a. at-half k t 1 (k - t) (omega arith) (omega arith) (omega arith)))
-      (λ b. at-below k t 2 0 (omega arith) (omega arith) (omega arith))
+  pub near-2 : h + t ≤ k → k ≤ t + t → Near k t 2
+  near-2 l u =
+      let w : 2 * t ≡ t + t = suc-mul 1 t ∙ ap (λ (i : ℕ). i + t) (one-mul t) in
+      record { half = omega arith; tie = λ e. refl; least = omega arith }

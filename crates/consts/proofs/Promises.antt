@@ -10,7 +10,7 @@ use lib.Ieee.{Float, binary64, fits, isNan, lt, le, eq, neg, ofBits}
 use Rattle.order.specs.Key.{Num}
 use Rattle.order.specs.Choice.{abs}
 use Rattle.consts.specs.declared.answer.Number.{Number}
-use Rattle.consts.specs.Constants.{PI, FOUR-PI, NEG-FOUR-PI}
+use Rattle.consts.specs.Constants.{PI, NEG-PI, FOUR-PI, NEG-FOUR-PI}
 use Rattle.consts.specs.Refusal.{number, accepted, badMargin}
 use Rattle.consts.specs.Answer.{ZERO, numberAnswer, zeroUnder, told, ZeroExactly}
 use Rattle.consts.specs.Reading.{MOST, LEAST, inReach, plain, NoMinus}
@@ -18,6 +18,7 @@ use Rattle.consts.specs.Remainder.{value, turn, withinFourPi, remainderO
 use Rattle.consts.proofs.Readings.{plain-le, le-plain, plain-lt, lt-plain, plain-eq, eq-plain, plain-num}
 use Rattle.consts.proofs.Sizes.{size-within, size-beyond}
 use Rattle.consts.proofs.Remainders.{remainder-is, is-remainder, remainder-plain, half, two-halves}
+use Rattle.consts.proofs.Turns as turns
 use Rattle.consts.proofs.Refusals.{chosen, given-chosen}
 use Rattle.consts.proofs.Determined as determined
 
@@ -75,6 +76,21 @@ pub remainder-ieee : (x : Float) → fits binary64 x ≡ true → withinFourPi x
     → IsRem x (remainder x .value) × ((r : Float) → fits binary64 r ≡ true → IsRem x r → r ≡ remainder x .value)
 unfolding remainder
 remainder-ieee x f w = simp w (remainder-is x f w, λ r g h. is-remainder x r f g h)
+
+-- ---- document 02, T-03
+accepted-within : (x : Float) → remainder x .refusal ≡ number accepted → withinFourPi x ≡ true
+unfolding remainder
+accepted-within x = go (withinFourPi x)
+  where
+    go : (t : Bool) → told (cond t (number accepted) (number badMargin)) (remainderOf x) .refusal ≡ number accepted → t ≡ true
+    go true h = refl
+    go false h = absurd (omega (arith, h))
+
+-- "why the result stays in [-PI, PI]": the answer to every argument that is accepted does
+pub stays-in-range : (x : Float) → fits binary64 x ≡ true → remainder x .refusal ≡ number accepted
+    → (le NEG-PI (remainder x .value) ≡ true) × (le (remainder x .value) PI ≡ true)
+unfolding remainder
+stays-in-range x f h = let w = accepted-within x h in simp w (turns.stays-in-range x f w)
 
 -- ---- strength of the contracts
 -- "Show that two answers allowed by it coincide": of every contract of the form "the answer is this function of the arguments"

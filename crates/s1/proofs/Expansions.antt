@@ -14,7 +14,8 @@ use Rattle.consts.specs.Refusal.{number, accepted, badMargin}
 use Rattle.consts.specs.Reading.{inReach, plain, NoMinus, readNumber}
 use Rattle.consts.specs.Remainder.{withinFourPi, remainderOf, remainder}
 use Rattle.consts.proofs.Readings.{num-zero, reach-num, plain-fits, plain-reach}
-use Rattle.consts.proofs.Remainders.{remainder-fits, remainder-low, remainder-high, remainder-plain}
+use Rattle.consts.proofs.Remainders.{remainder-fits, remainder-plain}
+use Rattle.consts.proofs.Turns.{stays-in-range}
 use Rattle.s1.specs.declared.interval.Interval.{Interval}
 use Rattle.s1.specs.Circle as circle
 use Rattle.s1.specs.Circle.{FULL, EMPTY, «new», isEmpty, isFull, len, movedBy, moved, widenedTo}
@@ -93,7 +94,7 @@ module _ (i : Interval) (m : Float) (v : Valid i) (f : fits binary64 m ≡ true)
   brought x g = go (withinFourPi x) refl
     where
       go : (t : Bool) → withinFourPi x ≡ t → OnCircle (told (cond t (number accepted) (number badMargin)) (remainderOf x) .value)
-      go true h = record { is-double = remainder-fits x; on-circle = and-of (remainder-low x g h) (remainder-high x g h) }
+      go true h = let r = stays-in-range x g h in record { is-double = remainder-fits x; on-circle = and-of (r .0) (r .1) }
       go false h = record { is-double = unfold fits ofBits in refl; on-circle = unfold le lt eq ofBits in refl }
 
   pub read-expanded-valid : Valid (circle.expanded i m)

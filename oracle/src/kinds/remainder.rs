@@ -48,7 +48,17 @@ const WORKED: Worked = &[
     ("remainder C01921FB54442D18", "0 0.0"),
     ("remainder 402921FB54442D18", "0 0.0"),
     ("remainder 402921FB54442D19", "4 0.0"),
+    ("remainder C02921FB54442D19", "4 0.0"),
     ("remainder 7FF8000000000000", "4 0.0"),
+    // on either side of a bound between two multiples
+    ("remainder 400921FB54442D17", "0 400921FB54442D17"),
+    ("remainder 400921FB54442D19", "0 C00921FB54442D17"),
+    ("remainder C00921FB54442D17", "0 C00921FB54442D17"),
+    ("remainder C00921FB54442D19", "0 400921FB54442D17"),
+    ("remainder 4022D97C7F3321D1", "0 400921FB54442D14"),
+    ("remainder 4022D97C7F3321D3", "0 C00921FB54442D14"),
+    ("remainder C022D97C7F3321D1", "0 C00921FB54442D14"),
+    ("remainder C022D97C7F3321D3", "0 400921FB54442D14"),
     // no questions
     ("", "?"),
     ("remainder", "?"),

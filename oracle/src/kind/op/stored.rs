@@ -1,8 +1,8 @@
-//! What is stored of an operation: boundary values in every place; circle intervals, rectangles and vertex numbers
-//! with something special about them, rectangles with several faults among them.
+//! What is stored of an operation: boundary values in every place; circle intervals, rectangles, vertex numbers and
+//! arguments of the remainder with something special about them, rectangles with several faults among them.
 
 use super::{Op, Question};
-use crate::base::roles::{self, Role};
+use crate::base::roles::{self, Role, TWO_PI};
 use crate::draw::{self, EDGES, OUTSIDE};
 use crate::kind::{boxed, Kind, Says, Stored, EACH_REFUSAL};
 
@@ -53,11 +53,13 @@ fn boundaries(op: &Op) -> Vec<Vec<f64>> {
     values.iter().enumerate().filter(|_| !places.is_empty()).map(put).collect()
 }
 
-/// Circle intervals and rectangles with something special about them, and vertex numbers, each in a
-/// plain question, the operands in turn.
+/// Circle intervals and rectangles with something special about them, vertex numbers, and of the remainder
+/// what lies just below a bound (just above is a boundary value), each in a plain question, the operands in turn.
 fn known(op: &Op) -> Vec<Vec<f64>> {
     let arcs: Vec<[f64; 2]> = draw::circle::KNOWN.iter().map(|ends| ends.map(f64::from_bits)).collect();
     let numbers: Vec<[f64; 1]> = [0, 1, 2, 3, 4, 7, 127, 128, 254, 255].map(|k| [f64::from(k)]).to_vec();
+    let bounds = [0.5, 1.5, 2.0].iter().flat_map(|turns| [turns * TWO_PI, -turns * TWO_PI]);
+    let below: Vec<[f64; 1]> = bounds.map(|bound| [bound.next_down()]).collect();
     let is_arc = |role, place| match role {
         Role::Circle | Role::CircleEnds => place == 0,
         Role::Rect => place == 2,
@@ -65,11 +67,13 @@ fn known(op: &Op) -> Vec<Vec<f64>> {
     };
     let is_rect = |role, place| role == Role::Rect && place == 0;
     let is_number = |role, _| role == Role::VertexNumber;
+    let is_argument = |role, _| role == Role::RemainderArgument;
     [
         in_turn(op, &arcs, &starts(op, is_arc)),
         in_turn(op, draw::rect::KNOWN, &starts(op, is_rect)),
         in_turn(op, draw::rect::FAULTY, &starts(op, is_rect)),
         in_turn(op, &numbers, &starts(op, is_number)),
+        in_turn(op, &below, &starts(op, is_argument)),
     ]
     .concat()
 }
