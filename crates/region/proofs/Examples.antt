@@ -77,7 +77,11 @@ pub record CommonRegions : Type 0 where
   pub second-refused : answer (zone 0 0 (rect 0 0x4000000000000000 0 0 (zone 0xC00921FB54442D18 0 []))) 9 ≡ record { refusal = 21; count = 0; entry = 1 }
 
 pub common-regions : CommonRegions
-unfolding answer left refusalOf entryOf wholeLength firstNumber firstEntry firstRefusal firstFault piecesOf rectsOf numbersOf asReadAll region bandFrom lngs across common steps step whole clip endAt cut insert sooner before someHolds readOne faultOf rectInReach asRead latitude line.isEmpty line.intersection circle.isValid circle.isEmpty circle.isFull inReach plain min max ofBits Ieee.lt Ieee.le Ieee.eq
+unfolding
+    answer left refusalOf entryOf wholeLength firstNumber firstEntry firstRefusal firstFault piecesOf rectsOf numbersOf asReadAll
+    region bandFrom lngs across common steps step whole clip endAt cut insert sooner before someHolds
+    readOne faultOf rectInReach asRead latitude line.isEmpty line.intersection circle.isValid circle.isEmpty circle.isFull
+    inReach plain min max ofBits Ieee.lt Ieee.le Ieee.eq
 common-regions =
     record {
       both-ends = record { answers = refl; leaves = refl };

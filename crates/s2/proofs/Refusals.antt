@@ -18,7 +18,9 @@ use Rattle.consts.specs.declared.answer.YesNo.{YesNo}
 use Rattle.s1.specs.Circle as circle
 use Rattle.s2.specs.Zone as zone
 use Rattle.s2.specs.Reading.{rectInReach, faultOf, readOne, readTwo, readPoint, readMargins, readWithPoint, readWithMargins}
-use Rattle.s2.specs.Answers.{rectAnswer, emptyUnder, rectangle, latLngAnswer, zerosUnder, point, isLatLng, fromLatLng, fromCenterSize, fromPointPair, isValid, isEmpty, isFull, isPoint, isInverted, vertex, center, size, expanded, polarClosure, union, intersection, intersects, interiorIntersects, contains, interiorContains, containsLatLng, interiorContainsLatLng, add, eq, approxEq, approxEqBy}
+use Rattle.s2.specs.Answers.{rectAnswer, emptyUnder, rectangle, latLngAnswer, zerosUnder, point, isLatLng, fromLatLng, fromCenterSize, fromPointPair}
+use Rattle.s2.specs.Answers.{isValid, isEmpty, isFull, isPoint, isInverted, vertex, center, size, expanded, polarClosure, union, intersection, intersects}
+use Rattle.s2.specs.Answers.{interiorIntersects, contains, interiorContains, containsLatLng, interiorContainsLatLng, add, eq, approxEq, approxEqBy}
 use Rattle.s2.specs.Refusals.{faulty, overLatitude, wrongCircle, unlikeParts, sound, RectReason, of-reach, of-latitudes, of-circle, of-parts, marginsInReach, Exactly, SaysNo, GivesEmpty, GivesZeros, GivesBack, Alone, Both, WithPoint}
 
 -- ---- an answer's number
