@@ -73,9 +73,9 @@ extern "C" {
 /* The version of this header, by VERSIONS above: as numbers, and as the text that sjurnabel_version answers where the
  * library that is linked is of the same version. */
 #define SJURNABEL_VERSION_MAJOR 0
-#define SJURNABEL_VERSION_MINOR 1
+#define SJURNABEL_VERSION_MINOR 2
 #define SJURNABEL_VERSION_PATCH 0
-#define SJURNABEL_VERSION "0.1.0"
+#define SJURNABEL_VERSION "0.2.0"
 
 /* The version of the library that is linked: a text of static storage. */
 const char *sjurnabel_version(void);
@@ -196,6 +196,14 @@ typedef struct sjurnabel_pieces {
     size_t entry;
 } sjurnabel_pieces;
 
+/* 48: refusal 0, accepted 8, value 16. accepted says how many calls were; a refusal is of the start or of the list's
+ * length, no call was made then, and accepted is 0. */
+typedef struct sjurnabel_running_answer {
+    uint8_t refusal;
+    size_t accepted;
+    sjurnabel_rect value;
+} sjurnabel_running_answer;
+
 /* 40: refusal 0, value 8. A refused box is four zeros. */
 typedef struct sjurnabel_bounds_answer {
     uint8_t refusal;
@@ -225,8 +233,15 @@ sjurnabel_pieces sjurnabel_common_region(const double *list, size_t list_length,
  * Refusals: 5 and 3, with the rectangle as it was handed in; 1, 21, 22 and 23, with the standard empty one. */
 sjurnabel_rect_answer sjurnabel_grow(sjurnabel_rect a, const double *points, size_t points_length);
 
-/* The scan worker: enlarges the running box by one point, as sjurnabel_grow does, in place. A box that starts as
- * the standard empty rectangle ends as one that holds every point.
+/* The running box that starts as a, after a call with each point of the list: a good point enlarges it as
+ * sjurnabel_rect_add does, a bad one changes nothing, and accepted says how many were good. What the box once held
+ * it holds ever after; each edge is one of a or a coordinate of an accepted point. Where no call was accepted it is
+ * a, every bit of it. At most 4,096 points; a longer track goes on from the box that the first part left.
+ * Refusals: 5, with a as it was handed in; 1, 21, 22 and 23 of a, with the standard empty one. */
+sjurnabel_running_answer sjurnabel_running(sjurnabel_rect a, const double *points, size_t points_length);
+
+/* The scan worker: a call of the running box in place, which enlarges it by one point. A box that starts as the
+ * standard empty rectangle ends as one that holds every point that was accepted.
  * Refusals: 1, 21, 22, 23 (the box), 3 (the point); the box is then untouched, every bit of it. */
 sjurnabel_refused sjurnabel_scan_point(sjurnabel_rect *box, sjurnabel_latlng p);
 

@@ -1,9 +1,9 @@
-//! Lists: growth by points, held against the crate's growth by one point after the other, and the common
-//! region, held against the sweep.
+//! Lists: growth by points and the running box, held against the crate's growth by one point after the other,
+//! and the common region, held against the sweep.
 
 use crate::draw::{points, zones, Points, Rng, Zones};
-use crate::ops::{add_all, add_one};
-use crate::records::{LatLng, Pieces, Rect, RectAnswer, Refused, EMPTY};
+use crate::ops::{add_all, add_one, add_valid};
+use crate::records::{LatLng, Pieces, Rect, RectAnswer, Refused, RunningAnswer, EMPTY};
 use crate::rows::{nothing, Row};
 use crate::sweep;
 
@@ -18,16 +18,22 @@ fn lists_of(n: usize) -> usize {
 
 extern "C" {
     fn sjurnabel_grow(a: Rect, points: *const f64, length: usize) -> RectAnswer;
+    fn sjurnabel_running(a: Rect, points: *const f64, length: usize) -> RunningAnswer;
     fn sjurnabel_scan_point(b: *mut Rect, p: LatLng) -> Refused;
     fn sjurnabel_common_region(list: *const f64, length: usize, out: *mut f64, room: usize) -> Pieces;
 }
 
-type Grow = unsafe extern "C" fn(Rect, *const f64, usize) -> RectAnswer;
+/// Growth by a list, or the running box after it.
+type Grow<A> = unsafe extern "C" fn(Rect, *const f64, usize) -> A;
 type Scan = unsafe extern "C" fn(*mut Rect, LatLng) -> Refused;
 type Common = unsafe extern "C" fn(*const f64, usize, *mut f64, usize) -> Pieces;
 
 extern "C" fn their_growth(a: Rect, points: *const f64, length: usize) -> RectAnswer {
     add_all(a, unsafe { std::slice::from_raw_parts(points, length) })
+}
+
+extern "C" fn their_running(a: Rect, points: *const f64, length: usize) -> RunningAnswer {
+    add_valid(a, unsafe { std::slice::from_raw_parts(points, length) })
 }
 
 extern "C" fn their_scan(b: *mut Rect, p: LatLng) -> Refused {
@@ -46,7 +52,7 @@ extern "C" fn their_common(list: *const f64, length: usize, out: *mut f64, room:
 }
 
 #[inline(never)]
-fn run_growth(call: Grow, lists: &[Vec<f64>]) {
+fn run_growth<A>(call: Grow<A>, lists: &[Vec<f64>]) {
     let call = std::hint::black_box(call);
     for l in lists {
         std::hint::black_box(unsafe { call(EMPTY, l.as_ptr(), l.len()) });
@@ -72,25 +78,61 @@ fn run_common(call: Common, lists: &[Vec<f64>]) {
     }
 }
 
-pub fn growth(rows: &mut Vec<Row>, g: &mut Rng) {
-    let kinds = [("4,096 points of a track", Points::Track), ("4,096 scattered points", Points::Scattered)];
-    for (name, kind) in kinds {
-        let lists: &'static [Vec<f64>] =
-            Vec::leak((0..lists_of(4096)).map(|_| points(kind, 4096, g)).collect());
-        let answer = |call: Grow, l: &Vec<f64>| unsafe { call(EMPTY, l.as_ptr(), l.len()) };
-        rows.push(Row {
-            group: "growth by a list",
-            name: name.to_string(),
-            limit: Some(1.0),
-            calls: lists.len(),
-            differ: Box::new(move || {
-                lists.iter().filter(|l| answer(sjurnabel_grow, l) != answer(their_growth, l)).count()
-            }),
-            ours: Box::new(move || run_growth(sjurnabel_grow, lists)),
-            theirs: Some(Box::new(move || run_growth(their_growth, lists))),
-            nothing: Box::new(move || run_growth(nothing(), lists)),
-        });
+/// A row of lists of 4,096 points, each grown by from the empty rectangle.
+fn by_points<A: PartialEq + 'static>(
+    group: &'static str,
+    name: &str,
+    limit: Option<f64>,
+    lists: Vec<Vec<f64>>,
+    ours: Grow<A>,
+    theirs: Grow<A>,
+) -> Row {
+    let lists: &'static [Vec<f64>] = Vec::leak(lists);
+    let answer = |call: Grow<A>, l: &Vec<f64>| unsafe { call(EMPTY, l.as_ptr(), l.len()) };
+    Row {
+        group,
+        name: name.to_string(),
+        limit,
+        calls: lists.len(),
+        differ: Box::new(move || lists.iter().filter(|l| answer(ours, l) != answer(theirs, l)).count()),
+        ours: Box::new(move || run_growth(ours, lists)),
+        theirs: Some(Box::new(move || run_growth(theirs, lists))),
+        nothing: Box::new(move || run_growth::<A>(nothing(), lists)),
     }
+}
+
+const KINDS: [(&str, Points); 2] =
+    [("4,096 points of a track", Points::Track), ("4,096 scattered points", Points::Scattered)];
+
+fn drawn(kind: Points, g: &mut Rng) -> Vec<Vec<f64>> {
+    (0..lists_of(4096)).map(|_| points(kind, 4096, g)).collect()
+}
+
+pub fn growth(rows: &mut Vec<Row>, g: &mut Rng) {
+    for (name, kind) in KINDS {
+        rows.push(by_points(
+            "growth by a list",
+            name,
+            Some(1.0),
+            drawn(kind, g),
+            sjurnabel_grow,
+            their_growth,
+        ));
+    }
+}
+
+/// The running box: the same kinds of lists, and tracks of which every 64th point is bad.
+pub fn running(rows: &mut Vec<Row>, g: &mut Rng) {
+    let group = "running box";
+    for (name, kind) in KINDS {
+        rows.push(by_points(group, name, None, drawn(kind, g), sjurnabel_running, their_running));
+    }
+    let mut lists = drawn(Points::Track, g);
+    for list in &mut lists {
+        list.iter_mut().skip(1).step_by(128).for_each(|lng| *lng = 4.0);
+    }
+    let name = "4,096 points of a track, every 64th bad";
+    rows.push(by_points(group, name, None, lists, sjurnabel_running, their_running));
 }
 
 pub fn scan(rows: &mut Vec<Row>, g: &mut Rng) {

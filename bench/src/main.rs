@@ -27,6 +27,8 @@ fn rows() -> Vec<Row> {
     let g = &mut draw::Rng::new();
     lists::common(&mut rows, g);
     lists::growth(&mut rows, g);
+    // A start of its own, so that the rows below keep the inputs that they had before this row.
+    lists::running(&mut rows, &mut draw::Rng::new());
     lists::scan(&mut rows, g);
     ops::rects(&mut rows, g);
     ops::circles(&mut rows, g);

@@ -171,6 +171,20 @@ pub fn add_one(a: Rect, p: LatLng) -> Rect {
     back(&rect(a) + &point(p))
 }
 
+/// A running box, as a user of the crate writes it who has bad points: each is looked at first.
+pub fn add_valid(a: Rect, points: &[f64]) -> RunningAnswer {
+    let mut r = rect(a);
+    let mut accepted = 0;
+    for p in points.chunks_exact(2) {
+        let p = Point::from_radians(p[0], p[1]);
+        if p.is_valid() {
+            r = &r + &p;
+            accepted += 1;
+        }
+    }
+    RunningAnswer { refusal: 0, accepted, value: back(r) }
+}
+
 /// Growth by one point after the other, as a user of the crate writes it.
 pub fn add_all(a: Rect, points: &[f64]) -> RectAnswer {
     let mut r = rect(a);

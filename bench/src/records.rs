@@ -23,6 +23,7 @@ records! {
     /// The line's Hausdorff distance: a number, or none
     Distance { refusal: u8, unbounded: bool, value: f64 }
     Pieces { refusal: u8, count: usize, entry: usize }
+    RunningAnswer { refusal: u8, accepted: usize, value: Rect }
 }
 
 pub const EMPTY: Rect = Rect {

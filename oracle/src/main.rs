@@ -13,9 +13,11 @@ use std::io::{self, Read, Write};
 use std::process::ExitCode;
 
 use doors::{check, edges, plan, tally, vectors};
+use kind::Run;
 use program::{Program, Tried};
 
 const USAGE: &str = "usage: oracle answer | questions COUNT SEED | tally [--arms] QUESTIONS JUDGE OTHER
+       | run NAME COUNT SEED | judge NAME COUNT SEED ANSWERS
        | vectors | edges DIR | check | cases [PROGRAM] [--input]";
 
 fn usage() -> io::Error {
@@ -45,6 +47,8 @@ fn run(words: &[&str]) -> io::Result<u8> {
         ["questions", count, seed] => questions(count, seed).map(|_| 0),
         ["tally", questions, judge, other] => tally(questions, judge, other, false),
         ["tally", "--arms", questions, judge, other] => tally(questions, judge, other, true),
+        ["run", name, count, seed] => run_questions(name, count, seed).map(|_| 0),
+        ["judge", name, count, seed, answers] => judge(name, count, seed, answers),
         ["vectors"] => io::stdout().write_all(&vectors::bytes()).map(|_| 0),
         ["edges", folder] => write_edges(folder).map(|_| 0),
         ["check"] => Ok(u8::from(check::run() > 0)),
@@ -94,14 +98,39 @@ fn whole(word: &str) -> io::Result<u64> {
 
 fn questions(count: &str, seed: &str) -> io::Result<()> {
     let (count, seed) = (whole(count)? as usize, whole(seed)?);
+    put_lines(|put| plan::questions(count, seed, put))
+}
+
+/// Writes what is put as lines, and gives the first error.
+fn put_lines(all: impl FnOnce(&mut dyn FnMut(&[u8]))) -> io::Result<()> {
     let mut output = io::BufWriter::with_capacity(1 << 16, io::stdout().lock());
     let mut result = Ok(());
-    plan::questions(count, seed, &mut |line| {
+    all(&mut |line| {
         if result.is_ok() {
             result = output.write_all(line).and_then(|_| output.write_all(b"\n"));
         }
     });
     result.and_then(|_| output.flush())
+}
+
+fn find_run(name: &str) -> io::Result<&'static Run> {
+    let mut runs = kinds::FAMILIES.iter().flat_map(|family| family.runs);
+    runs.find(|run| run.name == name).ok_or_else(usage)
+}
+
+fn run_questions(name: &str, count: &str, seed: &str) -> io::Result<()> {
+    let (run, count, seed) = (find_run(name)?, whole(count)? as usize, whole(seed)?);
+    put_lines(|put| (run.questions)(count, seed, &mut |line| put(line.as_bytes())))
+}
+
+/// Says what does not hold of these answers. The status is 1 where anything does not.
+fn judge(name: &str, count: &str, seed: &str, answers: &str) -> io::Result<u8> {
+    let (run, count, seed) = (find_run(name)?, whole(count)? as usize, whole(seed)?);
+    let text = std::fs::read_to_string(answers)?;
+    let mut lines = text.lines().map(str::to_string);
+    let tried = (run.judged)(count, seed, &mut || lines.next());
+    println!("{} {name}: {} wrong", tried.cases, tried.wrong);
+    Ok(u8::from(tried.wrong > 0))
 }
 
 /// Prints the comparison. The status is 1 on a difference or where the questions fall short.

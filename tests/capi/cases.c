@@ -19,6 +19,7 @@ static_assert(sizeof(sjurnabel_number) == 16 && offsetof(sjurnabel_number, value
 static_assert(sizeof(sjurnabel_interval_answer) == 24 && offsetof(sjurnabel_interval_answer, value) == 8, "interval_answer");
 static_assert(sizeof(sjurnabel_rect_answer) == 40 && offsetof(sjurnabel_rect_answer, value) == 8, "rect_answer");
 static_assert(sizeof(sjurnabel_pieces) == 24 && offsetof(sjurnabel_pieces, count) == 8 && offsetof(sjurnabel_pieces, entry) == 16, "pieces");
+static_assert(sizeof(sjurnabel_running_answer) == 48 && offsetof(sjurnabel_running_answer, accepted) == 8 && offsetof(sjurnabel_running_answer, value) == 16, "running_answer");
 static_assert(sizeof(sjurnabel_latlng_answer) == 24 && offsetof(sjurnabel_latlng_answer, value) == 8, "latlng_answer");
 static_assert(sizeof(sjurnabel_distance) == 16 && offsetof(sjurnabel_distance, unbounded) == 1 && offsetof(sjurnabel_distance, value) == 8, "distance");
 static_assert(sizeof(sjurnabel_bounds) == 32 && offsetof(sjurnabel_bounds, west) == 0 && offsetof(sjurnabel_bounds, south) == 8, "bounds");
@@ -29,7 +30,7 @@ static_assert(offsetof(sjurnabel_latlng_answer, refusal) == 0 && offsetof(sjurna
 static_assert(offsetof(sjurnabel_bounds_answer, refusal) == 0 && offsetof(sjurnabel_text, refusal) == 0, "the refusal is first");
 static_assert(offsetof(sjurnabel_yes_no, refusal) == 0 && offsetof(sjurnabel_number, refusal) == 0, "the refusal is first");
 static_assert(offsetof(sjurnabel_interval_answer, refusal) == 0 && offsetof(sjurnabel_rect_answer, refusal) == 0, "the refusal is first");
-static_assert(offsetof(sjurnabel_pieces, refusal) == 0, "the refusal is first");
+static_assert(offsetof(sjurnabel_pieces, refusal) == 0 && offsetof(sjurnabel_running_answer, refusal) == 0, "the refusal is first");
 static_assert(sizeof(bool) == 1 && sizeof(double) == 8 && sizeof(size_t) == 8, "x86-64");
 
 #define PI 3.141592653589793
@@ -205,6 +206,43 @@ static void growth(void) {
     for (int i = 0; i < 4097; i++) { many[2 * i] = 0.0001 * i; many[2 * i + 1] = -0.0001 * i; }
     CHECK(answers(sjurnabel_grow(EMPTY, many, 2 * 4096), 0, rect(0, 0.0001 * 4095, -0.0001 * 4095, 0)));
     CHECK(answers(sjurnabel_grow(EMPTY, many, 2 * 4097), SJURNABEL_BAD_LIST, EMPTY));
+}
+
+/* ---- the running box by value ---- */
+static bool ran(sjurnabel_running_answer a, int refusal, size_t accepted, sjurnabel_rect r) { return a.refusal == refusal && a.accepted == accepted && same_rect(a.value, r); }
+
+static void running(void) {
+    static double many[2 * 4097];
+    const sjurnabel_rect start = {{0, 1}, {0, 1}}, minus = {{-0.0, 1}, {-0.0, 1}};
+    double none = NAN;
+    const double points[] = {0.5, 2, 1, 4, 1, -0.5, NAN, 0, 0.5, 0.5};
+    /* after each of the calls: the second and the fourth change nothing */
+    const sjurnabel_rect boxes[] = {rect(-0.0, 1, -0.0, 1), rect(0, 1, 0, 2), rect(0, 1, 0, 2), rect(0, 1, -0.5, 2), rect(0, 1, -0.5, 2), rect(0, 1, -0.5, 2)};
+    const size_t accepted[] = {0, 1, 1, 2, 2, 3};
+    for (size_t n = 0; n <= 5; n++) {
+        CHECK(ran(sjurnabel_running(minus, points, 2 * n), 0, accepted[n], boxes[n]));
+        if (n < 5) CHECK(ran(sjurnabel_running(minus, points, 2 * n + 1), SJURNABEL_BAD_LIST, 0, minus));
+        /* in two parts */
+        CHECK(ran(sjurnabel_running(boxes[n], points + 2 * n, 2 * (5 - n)), 0, 3 - accepted[n], boxes[5]));
+    }
+    CHECK(ran(sjurnabel_running(minus, &none, 0), 0, 0, minus));
+    CHECK(ran(sjurnabel_running(minus, points + 8, 2), 0, 1, start));
+    /* bad points alone leave every bit, of a NaN too */
+    for (size_t k = 0; k < BAD_POINTS; k++) CHECK(ran(sjurnabel_running(minus, bad_points[k], 2), 0, 0, minus));
+    CHECK(ran(sjurnabel_running(rect(marked(1), 9, 9, 9), points, 3), SJURNABEL_BAD_LIST, 0, rect(marked(1), 9, 9, 9)));
+    /* the order matters: half a turn apart, either way round is as long */
+    const double east[] = {0, 0, 0, PI}, west[] = {0, PI, 0, 0}, seam[] = {0, -PI};
+    CHECK(ran(sjurnabel_running(EMPTY, east, 4), 0, 2, rect(0, 0, 0, PI)) && ran(sjurnabel_running(EMPTY, west, 4), 0, 2, rect(0, 0, PI, 0)));
+    CHECK(ran(sjurnabel_running(EMPTY, seam, 2), 0, 1, rect(0, 0, PI, PI)));
+    for (int n = 0; n < REASONS; n++)
+        for (int k = 0; k < KINDS; k++) {
+            CHECK(ran(sjurnabel_running(bad(n, k), points, 10), reasons[n], 0, EMPTY) && ran(sjurnabel_running(bad(n, k), &none, 0), reasons[n], 0, EMPTY));
+            CHECK(ran(sjurnabel_running(bad(n, k), points, 3), SJURNABEL_BAD_LIST, 0, bad(n, k)));
+        }
+    /* a track round the globe with every seventh point bad; one point more is too many */
+    for (int i = 0; i < 4097; i++) { many[2 * i] = 0.0001 * i; many[2 * i + 1] = i % 7 == 3 ? 4.0 : -0.0001 * i; }
+    CHECK(ran(sjurnabel_running(EMPTY, many, 2 * 4096), 0, 4096 - 585, rect(0, 0.0001 * 4095, -0.0001 * 4095, 0)));
+    CHECK(ran(sjurnabel_running(minus, many, 2 * 4097), SJURNABEL_BAD_LIST, 0, minus));
 }
 
 /* ---- the scan worker: a box with a word on either side ---- */
@@ -637,6 +675,7 @@ int main(void) {
     common_region();
     entries();
     growth();
+    running();
     scan();
     rectangles();
     rectangles_made();

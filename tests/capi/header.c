@@ -29,6 +29,7 @@ int main(void) {
     if (!same(other, both[1]) || !same(other, numbered.box) || !same(other, pair[0]) || !same(other, start(1)) || !same(other, *pointed)) wrong = 1;
     if (found.refusal != SJURNABEL_ACCEPTED || found.count != 1 || found.entry != 0 || !same(piece, SJURNABEL_FULL_RECT)) wrong = 1;
     if (sjurnabel_scan_point(&running, p).refusal || running.lng.lo != SJURNABEL_PI || running.lat.hi != SJURNABEL_FULL_RECT.lat.hi) wrong = 1;
+    if (sjurnabel_running(SJURNABEL_EMPTY_RECT, &p.lat, 2).accepted != 1) wrong = 1;
     box = SJURNABEL_FULL_RECT;
     if (!same(box, other) || !sjurnabel_rect_is_empty(SJURNABEL_EMPTY_RECT).value || strlen(sjurnabel_refusal_text(SJURNABEL_BAD_CIRCLE)) == 0) wrong = 1;
     puts(sjurnabel_version());

@@ -25,11 +25,8 @@ static void put_double(double d) {
     memcpy(&u, &d, 8);
     put(" %016llX", d != d ? 0x7FF8000000000000ull : u);
 }
-static void put_rect(int refusal, sjurnabel_rect r) {
-    put("%llu", (unsigned)refusal);
-    put_double(r.lat.lo), put_double(r.lat.hi), put_double(r.lng.lo), put_double(r.lng.hi);
-}
-static void rect(sjurnabel_rect_answer a) { put_rect(a.refusal, a.value); }
+static void put_four(sjurnabel_rect r) { put_double(r.lat.lo), put_double(r.lat.hi), put_double(r.lng.lo), put_double(r.lng.hi); }
+static void rect(sjurnabel_rect_answer a) { put("%llu", a.refusal), put_four(a.value); }
 static void point(sjurnabel_latlng_answer a) { put("%llu", a.refusal), put_double(a.value.lat), put_double(a.value.lng); }
 static void interval(sjurnabel_interval_answer a) { put("%llu", a.refusal), put_double(a.value.lo), put_double(a.value.hi); }
 static void yes_no(sjurnabel_yes_no a) { put("%llu", a.refusal), put(" %llu", a.value); }
@@ -209,21 +206,18 @@ static bool growth(const char *s) {
     return rect(sjurnabel_grow(R(0), x + 4, (size_t)n)), true;
 }
 
-/* the points one by one through the worker, with the last refusal that is not 0. Before them comes the start, which growth
- * by no point reads */
-static bool scan(const char *s) {
+/* the running box by value; after it the same calls one by one through the worker, which must leave the same box and
+ * accept as many */
+static bool running(const char *s) {
     long n = read_with_points(s);
-    if (n < 0) return false;
+    if (n < 0 || n % 2) return false;
+    sjurnabel_running_answer a = sjurnabel_running(R(0), x + 4, (size_t)n);
     sjurnabel_rect box = R(0);
-    sjurnabel_rect_answer start = sjurnabel_grow(box, x + 4, 0);
-    int refusal = 0;
-    if (n % 2 || n > 2 * SJURNABEL_MOST_POINTS) return put_rect(SJURNABEL_BAD_LIST, box), true;
-    if (start.refusal || n == 0) return rect(start), true;
-    for (long i = 0; i < n; i += 2) {
-        int one = sjurnabel_scan_point(&box, P(4 + i)).refusal;
-        if (one) refusal = one;
-    }
-    return put_rect(refusal, box), true;
+    size_t accepted = 0;
+    for (long i = 0; i < n; i += 2) accepted += !sjurnabel_scan_point(&box, P(4 + i)).refusal;
+    if (a.refusal == 0 && (accepted != a.accepted || !same_rect(box, a.value))) put("the scan worker differs: %llu, ", accepted);
+    put("%llu", a.refusal), put(" %llu", a.accepted), put_four(a.value);
+    return true;
 }
 
 /* BYTES: two digits a byte, - for none */
@@ -269,7 +263,7 @@ static bool bbox_rect(const char *s) {
 static const struct { const char *name; long count; void (*reply)(void); bool (*read)(const char *); } questions[] = {
     QUESTIONS(ENTRY)
     {"remainder", 1, remainder_of, NULL}, {"rect.add", 6, rect_add, NULL}, {"rect.vertex", 0, NULL, rect_vertex},
-    {"common", 0, NULL, common}, {"growth", 0, NULL, growth}, {"scan", 0, NULL, scan},
+    {"common", 0, NULL, common}, {"growth", 0, NULL, growth}, {"running", 0, NULL, running},
     {"bbox.read", 0, NULL, bbox_read}, {"bbox.write", 0, NULL, bbox_write}, {"bbox.rect", 0, NULL, bbox_rect},
 };
 #define KINDS (sizeof questions / sizeof *questions)

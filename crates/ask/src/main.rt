@@ -169,7 +169,7 @@ fn put(answers: &[u8]) {
 }
 
 // The answer to any other question, of which s is what follows the name. Apart are those whose operands
-// are not only numbers: `rect.vertex`, `growth` and `scan`, and `bbox.rect`.
+// are not only numbers: `rect.vertex`, `growth` and `running`, and `bbox.rect`.
 fn answer(name: &[u8], s: &[u8]) -> Reply {
     if check::same(name, b"bbox.rect") {
         return boxes::to_rect(s);
@@ -177,9 +177,9 @@ fn answer(name: &[u8], s: &[u8]) -> Reply {
     if check::same(name, b"rect.vertex") {
         return rect::vertex(s);
     }
-    let scans = check::same(name, b"scan");
-    if scans | check::same(name, b"growth") {
-        return points::reply(scans, s);
+    let runs = check::same(name, b"running");
+    if runs | check::same(name, b"growth") {
+        return points::reply(runs, s);
     }
     of_numbers(name, s)
 }

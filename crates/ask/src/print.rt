@@ -33,6 +33,7 @@ fn answer(a: Reply, at: usize, out: &mut [u8]) -> usize
         Reply::One(n, x) => numbers(&[x], refusal(n, at, out), out),
         Reply::Two(n, x, y) => numbers(&[x, y], refusal(n, at, out), out),
         Reply::Four(n, w, x, y, z) => numbers(&[w, x, y, z], refusal(n, at, out), out),
+        Reply::Counted(n, k, w, x, y, z) => numbers(&[w, x, y, z], counted(n, k, at, out), out),
         Reply::Unbounded(n) => mark(b'U', refusal(n, at, out), out),
     }
 }

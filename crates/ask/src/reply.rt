@@ -9,6 +9,8 @@ pub enum Reply {
     One(u8, f64),
     Two(u8, f64, f64),
     Four(u8, f64, f64, f64, f64),
+    // A count before a rectangle's four numbers.
+    Counted(u8, usize, f64, f64, f64, f64),
     // A distance that is no number.
     Unbounded(u8),
 }

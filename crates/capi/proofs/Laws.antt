@@ -6,9 +6,10 @@ use native.Mathlib.Omega.{arith}
 use lib.ListN.{length}
 use lib.Dec.{eqb}
 use lib.Ieee.{Float}
+use Rattle.s2.specs.declared.rect.Rect.{Rect}
 use Rattle.s2.specs.declared.rect.Answer.{Answer}
 use Rattle.lists.specs.Rects.{numbersOf}
-use Rattle.scan.specs.Scan.{kept}
+use Rattle.growth.specs.RunningBox.{kept}
 use Rattle.c_records.specs.Boxes.{boxOf, boxLeft}
 
 four : (l : List Float) → length l ≡ 4 → numbersOf (boxOf l ∷ []) ≡ l
@@ -28,3 +29,8 @@ keeps l a h = by-number (eqb (a .refusal) 0)
     by-number : (t : Bool) → cond t (numbersOf (a .value ∷ [])) l ≡ numbersOf (cond t (a .value) (boxOf l) ∷ [])
     by-number true = refl
     by-number false = sym (four l h)
+
+-- and they are a rectangle's again
+pub back : (r : Rect) → boxOf (numbersOf (r ∷ [])) ≡ r
+unfolding numbersOf
+back r = refl

@@ -1,4 +1,4 @@
--- A point that a valid rectangle holds already is accepted, and growth by it changes nothing. Its latitude lies between latitudes and its longitude in the
+-- A point that a valid rectangle holds already is accepted, and a call with it changes nothing. Its latitude lies between latitudes and its longitude in the
 -- arc, so that growth of either part finds it inside; -PI lies only in an arc that holds PI, the seam's own name. Assumes nothing.
 use mathlib.Core.Path.{_≡_, refl, sym, ap, _∙_}
 use mathlib.Core.Bool.{Bool, true, false, not, _&&_, _||_, cond, false≢true}
@@ -30,17 +30,19 @@ use Rattle.s2.specs.declared.latlng.LatLng.{LatLng}
 use Rattle.s2.specs.declared.rect.Rect.{Rect}
 use Rattle.s2.specs.declared.reading.Pair.{Pair}
 use Rattle.s2.specs.Zone.{NORTH, SOUTH, latitude, isLatLng, add}
-use Rattle.s2.specs.Reading.{plainPoint, readPoint}
-use Rattle.s2.specs.Places.{Valid, ValidPoint}
+use Rattle.s2.specs.declared.rect.Answer.{Answer}
+use Rattle.s2.specs.Reading.{plainPoint, readPoint, NoMinusRect}
+use Rattle.s2.specs.Places.{Valid, ValidPoint, DoublePoint}
 use Rattle.s2.proofs.Readings.{poles, point-in}
 use Rattle.s2.proofs.Latitudes.{Range}
 use Rattle.s2.proofs.Circles.{seam-plain}
 use Rattle.s2.proofs.Valid.{range, empty-both}
+use Rattle.s2.proofs.Accepted.{add-is}
 use Rattle.lists.specs.Points.{pointsOf, pointAt}
-use Rattle.lists.proofs.Doubles.{DoublePoint}
-use Rattle.growth.specs.Growth.{grownFrom}
-use Rattle.growth.specs.Devices.{isOn, isHeld}
-use Rattle.growth.proofs.Turns.{grow-turn}
+use Rattle.lists.proofs.PointLists.{two}
+use Rattle.growth.specs.RunningBox.{after, running}
+use Rattle.growth.specs.Devices.{isOn, isHeld, badIn}
+use Rattle.growth.proofs.RunningBox.{read-same, call-good}
 
 -- ---- the latitudes
 module _ (i : Line) (x : Float) (a : Range i) (f : fits binary64 x ≡ true) (h : le (i .lo) x ≡ true) (k : le x (i .hi) ≡ true) where
@@ -207,9 +209,18 @@ module _ (q : Rect) (p : LatLng) (v : Valid q) (d : DoublePoint p) (h : isHeld q
       let lng = lng-stays (q .lng) (p .lng) (v .lng-valid) (d .lng-double) on-arc filled in
       λ j. record { lat = lat j; lng = lng j }
 
--- so such a point of a list is passed over
-pub held-turn : (r q : Rect) (l : List Float) (i : ℕ) → i + 1 < length l → Valid q → DoublePoint (pointAt l i) → isHeld q (pointAt l i) ≡ true
-    → grownFrom r q (pointsOf (drop (i + 2) l)) ≡ grownFrom r q (pointsOf (drop i l))
-held-turn r q l i n v d h =
-    sym (grow-turn r q l i n _ (sym (point-in (pointAt l i) (held-valid q (pointAt l i) v d h))) refl
-    ∙ ap (λ (g : Rect). grownFrom r g (pointsOf (drop (i + 2) l))) (held-stays q (pointAt l i) v d h))
+  -- so a call with it changes nothing, where the rectangle has been read
+  pub held-call : NoMinusRect q → after q p ≡ q
+  held-call m =
+      call-good v p held-valid ∙ ap (λ (a : Answer). a .value) (add-is q v p held-valid)
+      ∙ ap (λ (r : Rect). add r (plainPoint p)) (read-same q m) ∙ held-stays
+
+-- such a point of a list is passed over
+module _ (q : Rect) (l : List Float) (i : ℕ) (n : i + 1 < length l) (v : Valid q) (d : DoublePoint (pointAt l i)) (h : isHeld q (pointAt l i) ≡ true) where
+  pub held-turn : NoMinusRect q → running q (pointsOf (drop (i + 2) l)) ≡ running q (pointsOf (drop i l))
+  unfolding running
+  held-turn m = sym (ap (running q) (two l i n) ∙ ap (λ (r : Rect). running r (pointsOf (drop (i + 2) l))) (held-call q (pointAt l i) v d h m))
+
+  pub held-good : badIn (pointsOf (drop (i + 2) l)) ≡ badIn (pointsOf (drop i l))
+  unfolding badIn
+  held-good = sym (ap badIn (two l i n) ∙ simp (held-accepted q (pointAt l i) v d h))

@@ -1,176 +1,111 @@
--- What growth by a list means: it is growth by the points one by one, first to last; which refusal comes first, and what a refusal hands back; an accepted
--- growth is valid and holds the start and each point.
--- The idea: a valid rectangle grown by a valid point is valid and has no negative zero (the crate s2), so that to read it again changes nothing, and growth
--- on what has been read goes side by side with the public growth. Assumes nothing.
+-- What growth by a list and the running box by value answer: which refusal comes first, and what stands beside it; what is accepted is the running box
+-- (proofs/RunningBox.antt). Assumes nothing.
 use mathlib.Core.Path.{_≡_, refl, sym, ap, _∙_, subst}
-use mathlib.Core.Bool.{Bool, true, false, cond}
+use mathlib.Core.Bool.{Bool, true, false, cond, false≢true}
 use mathlib.Core.List.{List, [], _∷_}
 use mathlib.Core.Logic.{_⊎_, inl, inr, _↔_}
-use Prim.Native.Nat.{ℕ, zero, suc}
+use Prim.Native.Nat.{ℕ}
 use native.Mathlib.Omega.{arith}
-use borrow.Author.Tests.{eqb-true, eqb-false, ne-eqb}
+use borrow.Author.Tests.{eqb-true, eqb-false, eq-eqb, ne-eqb}
 use lib.Dec.{eqb}
+use lib.ListN.{length}
 use lib.Ieee.{Float}
-use Rattle.consts.specs.Refusal.{number, accepted, badPoint, badList, ofEntry, firstRefusal, given}
-use Rattle.consts.proofs.Refusals.{either}
+use Rattle.consts.specs.Refusal.{number, accepted, badPoint, badList, ofEntry, firstRefusal}
 use Rattle.s2.specs.declared.latlng.LatLng.{LatLng}
 use Rattle.s2.specs.declared.rect.Rect.{Rect}
 use Rattle.s2.specs.declared.rect.Answer.{Answer}
 use Rattle.s2.specs.declared.reading.One.{One}
-use Rattle.s2.specs.declared.reading.Pair.{Pair}
-use Rattle.s2.specs.Zone as zone
 use Rattle.s2.specs.Zone.{at, isLatLng}
-use Rattle.s2.specs.Reading.{asRead, plainPoint, readOne, readPoint, NoMinusRect}
-use Rattle.s2.specs.Answers.{rectAnswer, emptyUnder, add}
-use Rattle.s2.specs.Places.{placeOf, Valid, ValidPoint, holds, Inside}
-use Rattle.s2.proofs.Readings.{one-in, point-in, point-bad, valid-read, valid-point-plain, holds-read}
-use Rattle.s2.proofs.Accepted.{add-is}
-use Rattle.s2.proofs.Valid.{read-add-valid, add-valid}
-use Rattle.s2.proofs.Zeros.{read-plain, add-plain}
+use Rattle.s2.specs.Reading.{asRead, NoMinusRect}
+use Rattle.s2.specs.Answers.{rectAnswer, emptyUnder, rectangle, add}
+use Rattle.s2.specs.Refusals.{RectReason}
+use Rattle.s2.specs.Places.{placeOf, Valid, ValidPoint, holds, Inside, Doubles, DoublePoint}
+use Rattle.s2.proofs.Readings.{one-in, valid-read, holds-read}
+use Rattle.s2.proofs.Zeros.{read-plain, growth-plain as add-plain}
+use Rattle.s2.proofs.Places.{point-place}
 use Rattle.s2.proofs.Differences.{add-start-refused}
-use Rattle.s2.proofs.Refusals.{never}
-use Rattle.s2.proofs.Places.{point-place, add-holds, add-refused}
+use Rattle.s2.proofs.Refusals.{never, number-when, reason-number}
 use Rattle.entries.specs.Lists.{Mem, first, later, All, wholeLength, whole}
-use Rattle.lists.specs.Points.{pointsOf}
 use Rattle.entries.specs.First.{firstNumber}
-use Rattle.lists.specs.Refused.{ofRect, firstBad}
-use Rattle.lists.proofs.Doubles.{Doubles, DoublePoint, accepted-valid, rect-decided, point-of, points-accepted, good-points, bad-among, points-decided}
-use Rattle.growth.specs.Growth.{under, grownAll, grownFrom, grownByPoints, grow, oneByOne, wholeOrNone}
+use Rattle.lists.specs.Points.{pointsOf}
+use Rattle.lists.specs.Refused.{ofRect, ofPoint, firstBad}
+use Rattle.lists.proofs.Doubles.{accepted-valid, points-accepted, good-points, bad-among, points-decided}
+use Rattle.growth.specs.declared.track.RunningAnswer.{RunningAnswer}
+use Rattle.growth.specs.RunningBox.{after, running, acceptedOf}
+use Rattle.growth.specs.Growth.{under, startOf, grownBy, grow, ranBy, noCalls, ran}
+use Rattle.growth.proofs.RunningBox.{read-same, run-valid, run-holds, point-held, all-accepted, no-entry, none-accepted, accepted-plain, accepted-call}
+use Rattle.growth.proofs.Turns.{bad-length}
 
--- ---- within the limits
--- a start that is accepted is valid as it is read, and growth by a point that is accepted keeps it so
-pub start-valid : (r : Rect) → Doubles r → (x : One) → x ≡ readOne r → x .refusal ≡ 0 → Valid (x .value)
-unfolding readOne
-start-valid r d x e k = subst (λ (y : One). Valid (y .value)) (sym e) (valid-read (accepted-valid r d (ap (λ (y : One). y .refusal) (sym e) ∙ k)))
+-- ---- a rectangle's own numbers are others than those of points and lists
+pub own-not : {n : ℕ} {f : Rect → Bool} → RectReason n f → (m : ℕ) → ofEntry m ≡ false → n ≡ m → ⊥
+own-not w m h e = false≢true (sym h ∙ subst (λ (k : ℕ). ofEntry k ≡ true) e (reason-number w))
 
-pub turn-valid : (q : Rect) → Valid q → (p : LatLng) → DoublePoint p → (x : Pair) → x ≡ readPoint p → x .refusal ≡ 0 → Valid (zone.add q (x .value))
-unfolding readPoint
-turn-valid q v p d x e k = subst (λ (y : Pair). Valid (zone.add q (y .value))) (sym e) (go (isLatLng p) refl)
-  where
-    go : (t : Bool) → isLatLng p ≡ t → Valid (zone.add q (plainPoint p))
-    go true h = read-add-valid v (valid-point-plain (point-of p d h))
-    go false h = absurd (omega (arith, sym (point-bad p h) ∙ ap (λ (y : Pair). y .refusal) (sym e) ∙ k))
+-- ---- one of the points is bad
+abbrev pub SomeBad : List LatLng → Type 0
+SomeBad ps = (p : LatLng) × Mem p ps × (isLatLng p ≡ false)
 
--- ---- a rectangle with no negative zero is its own reading, and a reading has none
-read-same : (r : Rect) → NoMinusRect r → asRead r ≡ r
-unfolding asRead
-read-same r m = λ i. record { lat = record { lo = m .0 .0 i; hi = m .0 .1 i }; lng = record { lo = m .1 .0 i; hi = m .1 .1 i } }
+-- ---- the start, before all points
+module _ (r : Rect) (l : List Float) where
+  -- its number is 5 for the list's length, else that of the rectangle
+  start-number : startOf r l .refusal ≡ cond (whole 2 4096 l) (ofRect r) (number badList)
+  unfolding startOf
+  start-number = go (whole 2 4096 l) (eqb (ofRect r) 0) refl
+    where
+      go : (s t : Bool) → eqb (ofRect r) 0 ≡ t → cond s (cond t (rectAnswer (asRead r)) (emptyUnder (ofRect r))) (under (number badList) r) .refusal ≡ cond s (ofRect r) (number badList)
+      go true true e = sym (eqb-true (ofRect r) 0 e)
+      go true false e = refl
+      go false t e = refl
 
-pub number-in : (p : LatLng) → ValidPoint p → readPoint p .refusal ≡ number accepted
-number-in p q = ap (λ (x : Pair). x .refusal) (point-in p q)
+  -- each of these exactly when
+  pub start-5 : (startOf r l .refusal ≡ number badList) ↔ (whole 2 4096 l ≡ false)
+  start-5 = ((λ h. there (whole 2 4096 l) refl (sym start-number ∙ h)), (λ w. start-number ∙ simp w))
+    where
+      there : (t : Bool) → whole 2 4096 l ≡ t → cond t (ofRect r) (number badList) ≡ number badList → whole 2 4096 l ≡ false
+      there true w h = absurd (never r 5 (unfold ofEntry in refl) h)
+      there false w h = w
 
--- so what is grown by a point is what the public growth answers, read again
-pub add-read : (r : Rect) (p : LatLng) → Valid r → ValidPoint p → zone.add (asRead r) (plainPoint p) ≡ asRead (add r p .value)
-add-read r p v q = sym (read-same (add r p .value) (add-plain r v p q) ∙ ap (λ (a : Answer). a .value) (add-is r v p q))
+  pub start-own : {n : ℕ} {f : Rect → Bool} → RectReason n f → (startOf r l .refusal ≡ n) ↔ ((whole 2 4096 l ≡ true) × (f r ≡ true))
+  start-own {n} {f} w = ((λ h. there (whole 2 4096 l) refl (sym start-number ∙ h)), (λ h. start-number ∙ simp (h .0) (number-when w r .1 (h .1))))
+    where
+      there : (t : Bool) → whole 2 4096 l ≡ t → cond t (ofRect r) (number badList) ≡ n → (whole 2 4096 l ≡ true) × (f r ≡ true)
+      there true e h = (e, number-when w r .0 h)
+      there false e h = absurd (own-not w 5 (unfold ofEntry in refl) (sym h))
 
--- ---- one point more, of a valid rectangle
-module _ (s r : Rect) (v : Valid r) (p : LatLng) (l : List LatLng) where
-  -- a good one is grown by
-  module _ (q : ValidPoint p) where
-    one-more : oneByOne r (p ∷ l) ≡ oneByOne (add r p .value) l
-    unfolding oneByOne
-    one-more = simp (add-is r v p q)
+  pub start-0 : Doubles r → (startOf r l .refusal ≡ number accepted) ↔ ((whole 2 4096 l ≡ true) × Valid r)
+  start-0 d = ((λ h. there (whole 2 4096 l) refl (sym start-number ∙ h)), (λ h. start-number ∙ simp (h .0) (ap (λ (x : One). x .refusal) (one-in r (h .1)))))
+    where
+      there : (t : Bool) → whole 2 4096 l ≡ t → cond t (ofRect r) (number badList) ≡ number accepted → (whole 2 4096 l ≡ true) × Valid r
+      there true e h = (e, accepted-valid r d h)
+      there false e h = absurd (omega (arith, h))
 
-    from-more : grownFrom s (asRead r) (p ∷ l) ≡ grownFrom s (asRead (add r p .value)) l
-    unfolding grownFrom firstNumber firstRefusal grownAll
-    from-more = simp (number-in p q) (ap (λ (x : Rect). grownFrom s x l) (add-read r p v q))
+  -- and what is then there
+  pub start-in : whole 2 4096 l ≡ true → Valid r → startOf r l ≡ rectAnswer (asRead r)
+  unfolding startOf
+  start-in w v = simp (w, one-in r v)
 
-  -- a bad one refuses
-  module _ (h : isLatLng p ≡ false) where
-    one-bad : oneByOne r (p ∷ l) ≡ under (number badPoint) r
-    unfolding oneByOne
-    one-bad = simp (add-refused r p v h)
+  pub start-out : whole 2 4096 l ≡ true → (ofRect r ≡ 0 → ⊥) → startOf r l ≡ emptyUnder (ofRect r)
+  unfolding startOf
+  start-out w h = simp (w, ne-eqb (ofRect r) 0 h)
 
-    from-bad : grownFrom s (asRead r) (p ∷ l) ≡ under (number badPoint) s
-    unfolding grownFrom firstNumber firstRefusal
-    from-bad = simp (point-bad p h)
-
-from-one-by-one : (s r : Rect) (ps : List LatLng) → Valid r → All DoublePoint ps → grownFrom s (asRead r) ps ≡ wholeOrNone s (oneByOne r ps)
-unfolding grownFrom firstNumber grownAll oneByOne wholeOrNone
-from-one-by-one s r [] v d = simp (one-in r v)
-from-one-by-one s r (p ∷ l) v d = go (isLatLng p) refl (λ q. from-one-by-one s (add r p .value) l (add-valid v q) (d .1))
-  where
-    go : (t : Bool) → isLatLng p ≡ t → (ValidPoint p → grownFrom s (asRead (add r p .value)) l ≡ wholeOrNone s (oneByOne (add r p .value) l))
-        → grownFrom s (asRead r) (p ∷ l) ≡ wholeOrNone s (oneByOne r (p ∷ l))
-    go true e ih = let q = point-of p (d .0) e in from-more s r v p l q ∙ ih q ∙ ap (wholeOrNone s) (sym (one-more s r v p l q))
-    go false e ih = from-bad s r v p l e ∙ ap (wholeOrNone s) (sym (one-bad s r v p l e))
-
--- ---- a start that is refused itself: its number, and the standard empty, whatever the points are
-points-refused : (r : Rect) (ps : List LatLng) → (ofRect r ≡ 0 → ⊥) → grownByPoints r ps ≡ emptyUnder (ofRect r)
-unfolding grownByPoints
-points-refused r ps h = simp (ne-eqb (ofRect r) 0 h)
-
-one-by-one-refused : (r : Rect) (ps : List LatLng) → (ofRect r ≡ 0 → ⊥) → oneByOne r ps ≡ emptyUnder (ofRect r)
-unfolding oneByOne
-one-by-one-refused r [] h = simp (ne-eqb (ofRect r) 0 h)
-one-by-one-refused r (p ∷ l) h = simp (add-start-refused r p h, ne-eqb (ofRect r) 0 h)
-
-points-valid : (r : Rect) (ps : List LatLng) → Valid r → grownByPoints r ps ≡ grownFrom r (asRead r) ps
-unfolding grownByPoints
-points-valid r ps v = simp (one-in r v)
-
--- ---- growth by a list is growth by its points one by one, first to last: the same number; where it is accepted, the same rectangle; under a number of the start the
--- standard empty. Under 3 the whole list is refused, and the start comes back
-pub one-by-one : (r : Rect) (l : List Float) → Doubles r → All DoublePoint (pointsOf l) → whole 2 4096 l ≡ true → grow r l ≡ wholeOrNone r (oneByOne r (pointsOf l))
-unfolding grow wholeOrNone
-one-by-one r l d e w = rw w (go (rect-decided r d))
-  where
-    -- a start's number is not 3, so that nothing is given up
-    kept : (n : ℕ) → ofRect r ≡ n → emptyUnder n ≡ wholeOrNone r (emptyUnder n)
-    kept n q = simp (ne-eqb n 3 (λ z. never r 3 (unfold ofEntry in refl) (q ∙ z)))
-
-    go : Valid r ⊎ (ofRect r ≡ 0 → ⊥) → grownByPoints r (pointsOf l) ≡ wholeOrNone r (oneByOne r (pointsOf l))
-    go (inl v) = points-valid r (pointsOf l) v ∙ from-one-by-one r r (pointsOf l) v e
-    go (inr h) = points-refused r (pointsOf l) h ∙ kept (ofRect r) refl ∙ ap (wholeOrNone r) (sym (one-by-one-refused r (pointsOf l) h))
-
-number-kept : (r : Rect) (a : Answer) → wholeOrNone r a .refusal ≡ a .refusal
-unfolding wholeOrNone
-number-kept r a = go (eqb (a .refusal) 3) (eqb-true (a .refusal) 3)
-  where
-    go : (t : Bool) → (t ≡ true → a .refusal ≡ 3) → cond t (under (number badPoint) r) a .refusal ≡ a .refusal
-    go true h = sym (h refl)
-    go false h = refl
-
-accepted-kept : (r : Rect) (a : Answer) → a .refusal ≡ 0 → wholeOrNone r a ≡ a
-unfolding wholeOrNone
-accepted-kept r a h = rw h refl
-
-pub one-by-one-number : (r : Rect) (l : List Float) → Doubles r → All DoublePoint (pointsOf l) → whole 2 4096 l ≡ true → grow r l .refusal ≡ oneByOne r (pointsOf l) .refusal
-one-by-one-number r l d e w = ap (λ (a : Answer). a .refusal) (one-by-one r l d e w) ∙ number-kept r (oneByOne r (pointsOf l))
-
-pub one-by-one-accepted : (r : Rect) (l : List Float) → Doubles r → All DoublePoint (pointsOf l) → whole 2 4096 l ≡ true → grow r l .refusal ≡ 0 → grow r l ≡ oneByOne r (pointsOf l)
-one-by-one-accepted r l d e w h = one-by-one r l d e w ∙ accepted-kept r (oneByOne r (pointsOf l)) (sym (one-by-one-number r l d e w) ∙ h)
-
--- by a list of one point it is the public growth by that point, for any numbers whatever
-pub one-point : (r : Rect) (a b : Float) → grow r (a ∷ (b ∷ [])) ≡ add r (at a b)
-unfolding grow grownByPoints grownFrom wholeLength pointsOf firstNumber firstRefusal grownAll add readOne readPoint
-one-point r a b = ap (λ (x : Answer). given (readOne r .refusal) x (emptyUnder (readOne r .refusal))) (go (isLatLng (at a b)))
-  where
-    by-number : ℕ → Answer
-    by-number n = given n (rectAnswer (zone.add (asRead r) (plainPoint (at a b)))) (under n r)
-
-    go : (t : Bool) → by-number (firstRefusal (cond t (number accepted) (number badPoint)) (number accepted)) ≡ by-number (cond t (number accepted) (number badPoint))
-    go true = refl
-    go false = refl
-
--- ---- refusals, in their order
+-- ---- growth by a list: its refusals, in their order
 -- 5 comes first and hands the start back as it came, whatever it is
 pub list-refused : (r : Rect) (l : List Float) → whole 2 4096 l ≡ false → grow r l ≡ under (number badList) r
 unfolding grow
-list-refused r l w = simp w
+list-refused r l w = simp (bad-length r l w)
 
 -- then the start's own number, with the standard empty, whatever the points are
 pub start-refused : (r : Rect) (l : List Float) → whole 2 4096 l ≡ true → (ofRect r ≡ 0 → ⊥) → grow r l ≡ emptyUnder (ofRect r)
 unfolding grow
-start-refused r l w h = rw w (points-refused r (pointsOf l) h)
+start-refused r l w h = simp (start-out r l w h, ne-eqb (ofRect r) 0 h)
 
 -- then 3 where one of the points is bad: the start comes back as it came
-first-bad : (r : Rect) (l : List Float) → whole 2 4096 l ≡ true → Valid r → firstBad (pointsOf l) ≡ number badPoint → grow r l ≡ under (number badPoint) r
-unfolding grow grownFrom
-first-bad r l w v h = rw w (points-valid r (pointsOf l) v ∙ simp h)
+pub grown-valid : (r : Rect) (l : List Float) → whole 2 4096 l ≡ true → Valid r → grow r l ≡ grownBy r (pointsOf l)
+unfolding grow
+grown-valid r l w v = simp (start-in r l w v)
 
 pub bad-point : (r : Rect) (l : List Float) → whole 2 4096 l ≡ true → Valid r → (p : LatLng) → Mem p (pointsOf l) → isLatLng p ≡ false → grow r l ≡ under (number badPoint) r
-bad-point r l w v p m h = first-bad r l w v (bad-among m h)
+unfolding grownBy
+bad-point r l w v p m h = grown-valid r l w v ∙ simp (bad-among m h)
 
 -- ---- accepted exactly when the list is of whole points, the start valid and each point valid
 pub record Accepted (r : Rect) (l : List Float) : Type 0 where
@@ -178,70 +113,96 @@ pub record Accepted (r : Rect) (l : List Float) : Type 0 where
   pub start : Valid r
   pub points : All ValidPoint (pointsOf l)
 
--- what is then answered
-pub accepted-is : (r : Rect) (l : List Float) → Accepted r l → grow r l ≡ rectAnswer (grownAll (asRead r) (pointsOf l))
-unfolding grow grownFrom
-accepted-is r l a = rw (a .whole) (points-valid r (pointsOf l) (a .start) ∙ simp (good-points (pointsOf l) (a .points)))
+-- what is then answered: the running box, as it is read; every call was accepted
+pub accepted-is : (r : Rect) (l : List Float) → Accepted r l → grow r l ≡ rectAnswer (asRead (running r (pointsOf l)))
+unfolding grownBy
+accepted-is r l a = grown-valid r l (a .whole) (a .start) ∙ simp (good-points (pointsOf l) (a .points))
 
--- ---- every growth is one of four, in the order of the refusals
-pub data IsGrown (r : Rect) (l : List Float) : Answer → Type 0 where
-  bad-list : whole 2 4096 l ≡ false → IsGrown r l (under (number badList) r)
-  start-bad : whole 2 4096 l ≡ true → (ofRect r ≡ 0 → ⊥) → IsGrown r l (emptyUnder (ofRect r))
-  point-is-bad : whole 2 4096 l ≡ true → Valid r → (p : LatLng) → Mem p (pointsOf l) → isLatLng p ≡ false → IsGrown r l (under (number badPoint) r)
-  all-good : Accepted r l → IsGrown r l (rectAnswer (grownAll (asRead r) (pointsOf l)))
-
-pub is-add : (r : Rect) (l : List Float) → Doubles r → All DoublePoint (pointsOf l) → IsGrown r l (grow r l)
-is-add r l d e = go (whole 2 4096 l) refl (rect-decided r d) (points-decided (pointsOf l))
-  where
-    go : (t : Bool) → whole 2 4096 l ≡ t → Valid r ⊎ (ofRect r ≡ 0 → ⊥) → (firstBad (pointsOf l) ≡ 0) ⊎ ((p : LatLng) × Mem p (pointsOf l) × (isLatLng p ≡ false))
-        → IsGrown r l (grow r l)
-    go true w (inl v) (inl p) =
-        let a : Accepted r l = record { whole = w; start = v; points = points-accepted (pointsOf l) e .0 p } in
-        subst (IsGrown r l) (sym (accepted-is r l a)) (all-good a)
-    go true w (inl v) (inr p) = subst (IsGrown r l) (sym (bad-point r l w v (p .0) (p .1) (p .2))) (point-is-bad w v (p .0) (p .1) (p .2))
-    go true w (inr h) p = subst (IsGrown r l) (sym (start-refused r l w h)) (start-bad w h)
-    go false w v p = subst (IsGrown r l) (sym (list-refused r l w)) (bad-list w)
-
--- ---- so each number is given exactly when documents 01 and 02 say
--- why the number n is given, each reason where none before it holds: 0, 3 and 5 for their own, any other for the start's
-abbrev pub Why : Rect → List Float → ℕ → Type 0
-Why r l n =
-    either (eqb n 0) (Accepted r l)
-    (either (eqb n 3) ((whole 2 4096 l ≡ true) × Valid r × ((p : LatLng) × Mem p (pointsOf l) × (isLatLng p ≡ false)))
-    (either (eqb n 5) (whole 2 4096 l ≡ false) ((whole 2 4096 l ≡ true) × (ofRect r ≡ n))))
-
+-- ---- the numbers of growth: the start's own, or that of the first bad point, which is 3
 module _ (r : Rect) (l : List Float) where
-  -- a start's number is neither 0 nor 3 nor 5
-  why-start : (n : ℕ) → ofRect r ≡ n → (n ≡ 0 → ⊥) → whole 2 4096 l ≡ true → Why r l n
-  why-start n e h w =
-      simp (ne-eqb n 0 h, ne-eqb n 3 (λ z. never r 3 (unfold ofEntry in refl) (e ∙ z)), ne-eqb n 5 (λ z. never r 5 (unfold ofEntry in refl) (e ∙ z))) (w, e)
-
-  why : (a : Answer) → IsGrown r l a → Why r l (a .refusal)
-  why _ (bad-list w) = w
-  why _ (start-bad w h) = why-start (ofRect r) refl h w
-  why _ (point-is-bad w v p m b) = (w, v, (p, m, b))
-  why _ (all-good a) = a
-
-  then : (n : ℕ) → Why r l n → grow r l .refusal ≡ n
-  then n = go (eqb n 0) (eqb n 3) (eqb n 5) refl refl refl
+  grow-number : grow r l .refusal ≡ firstRefusal (startOf r l .refusal) (firstBad (pointsOf l))
+  unfolding grow grownBy firstRefusal
+  grow-number = go (eqb (startOf r l .refusal) 0) (eqb (firstBad (pointsOf l)) 0) refl
     where
-      number-of : {a : Answer} → grow r l ≡ a → grow r l .refusal ≡ a .refusal
-      number-of e = ap (λ (x : Answer). x .refusal) e
+      go : (s t : Bool) → eqb (firstBad (pointsOf l)) 0 ≡ t
+          → cond s (cond t (rectAnswer (asRead (running r (pointsOf l)))) (under (firstBad (pointsOf l)) r)) (startOf r l) .refusal ≡ cond s (firstBad (pointsOf l)) (startOf r l .refusal)
+      go true true e = sym (eqb-true (firstBad (pointsOf l)) 0 e)
+      go true false e = refl
+      go false t e = refl
 
-      go : (s t u : Bool) → eqb n 0 ≡ s → eqb n 3 ≡ t → eqb n 5 ≡ u
-          → either s (Accepted r l)
-          (either t ((whole 2 4096 l ≡ true) × Valid r × ((p : LatLng) × Mem p (pointsOf l) × (isLatLng p ≡ false))) (either u (whole 2 4096 l ≡ false) ((whole 2 4096 l ≡ true) × (ofRect r ≡ n))))
-          → grow r l .refusal ≡ n
-      go true t u e f g a = number-of (accepted-is r l a) ∙ sym (eqb-true n 0 e)
-      go false true u e f g h = number-of (bad-point r l (h .0) (h .1) (h .2 .0) (h .2 .1) (h .2 .2)) ∙ sym (eqb-true n 3 f)
-      go false false true e f g w = number-of (list-refused r l w) ∙ sym (eqb-true n 5 g)
-      go false false false e f g h = number-of (start-refused r l (h .0) (λ z. eqb-false n 0 e (sym (h .1) ∙ z))) ∙ h .1
+  -- so a number that no point has is the start's
+  pub of-start : (n : ℕ) → (n ≡ 0 → ⊥) → (n ≡ 3 → ⊥) → (grow r l .refusal ≡ n) ↔ (startOf r l .refusal ≡ n)
+  unfolding firstRefusal
+  of-start n not-0 not-3 = ((λ h. there (eqb (startOf r l .refusal) 0) refl (points-decided (pointsOf l)) (sym grow-number ∙ h)), back)
+    where
+      there : (t : Bool) → eqb (startOf r l .refusal) 0 ≡ t → (firstBad (pointsOf l) ≡ 0) ⊎ SomeBad (pointsOf l)
+          → cond t (firstBad (pointsOf l)) (startOf r l .refusal) ≡ n → startOf r l .refusal ≡ n
+      there true e (inl k) h = absurd (not-0 (sym h ∙ k))
+      there true e (inr k) h = absurd (not-3 (sym h ∙ bad-among (k .1) (k .2)))
+      there false e k h = h
 
-pub given-exactly : (r : Rect) (l : List Float) → Doubles r → All DoublePoint (pointsOf l) → (n : ℕ) → (grow r l .refusal ≡ n) ↔ Why r l n
-given-exactly r l d e n = ((λ h. subst (Why r l) h (why r l (grow r l) (is-add r l d e))), then r l n)
+      back : startOf r l .refusal ≡ n → grow r l .refusal ≡ n
+      back h = grow-number ∙ simp (h, ne-eqb n 0 not-0)
 
-pub accepted-exactly : (r : Rect) (l : List Float) → Doubles r → All DoublePoint (pointsOf l) → (grow r l .refusal ≡ 0) ↔ Accepted r l
-accepted-exactly r l d e = given-exactly r l d e 0
+  -- 3 and 0 are the points'
+  pub bad-exactly : Doubles r → (grow r l .refusal ≡ number badPoint) ↔ ((whole 2 4096 l ≡ true) × Valid r × SomeBad (pointsOf l))
+  unfolding firstRefusal
+  bad-exactly d = ((λ h. there (eqb (startOf r l .refusal) 0) refl (points-decided (pointsOf l)) (sym grow-number ∙ h)), back)
+    where
+      there : (t : Bool) → eqb (startOf r l .refusal) 0 ≡ t → (firstBad (pointsOf l) ≡ 0) ⊎ SomeBad (pointsOf l)
+          → cond t (firstBad (pointsOf l)) (startOf r l .refusal) ≡ number badPoint → (whole 2 4096 l ≡ true) × Valid r × SomeBad (pointsOf l)
+      there true e (inl k) h = absurd (omega (arith, h, k))
+      there true e (inr k) h = let s = start-0 r l d .0 (eqb-true (startOf r l .refusal) 0 e) in (s .0, s .1, k)
+      there false e k h = absurd (never-3 (whole 2 4096 l) (sym (start-number r l) ∙ h))
+        where
+          never-3 : (t : Bool) → cond t (ofRect r) (number badList) ≡ 3 → ⊥
+          never-3 true z = never r 3 (unfold ofEntry in refl) z
+          never-3 false z = omega (arith, z)
+
+      back : (whole 2 4096 l ≡ true) × Valid r × SomeBad (pointsOf l) → grow r l .refusal ≡ number badPoint
+      back h = ap (λ (x : Answer). x .refusal) (bad-point r l (h .0) (h .1) (h .2 .0) (h .2 .1) (h .2 .2))
+
+  pub accepted-exactly : Doubles r → All DoublePoint (pointsOf l) → (grow r l .refusal ≡ number accepted) ↔ Accepted r l
+  unfolding firstRefusal
+  accepted-exactly d e = ((λ h. there (eqb (startOf r l .refusal) 0) refl (sym grow-number ∙ h)), (λ a. ap (λ (x : Answer). x .refusal) (accepted-is r l a)))
+    where
+      there : (t : Bool) → eqb (startOf r l .refusal) 0 ≡ t → cond t (firstBad (pointsOf l)) (startOf r l .refusal) ≡ number accepted → Accepted r l
+      there true q h =
+          let s = start-0 r l d .0 (eqb-true (startOf r l .refusal) 0 q) in
+          record { whole = s .0; start = s .1; points = points-accepted (pointsOf l) e .0 h }
+      there false q h = absurd (eqb-false (startOf r l .refusal) 0 q h)
+
+-- by a list of one point it is the public growth by that point, for any numbers whatever
+module _ (r : Rect) (a b : Float) where
+  abbrev p : LatLng
+  p = at a b
+
+  -- a start and a point that are accepted: one call is made
+  module _ (e : ofRect r ≡ 0) (h : ofPoint p ≡ 0) where
+    one-call : grow r (a ∷ (b ∷ [])) ≡ rectAnswer (asRead (after r p))
+    unfolding grow startOf grownBy wholeLength pointsOf firstNumber firstRefusal running
+    one-call = simp (eq-eqb (ofRect r) 0 e, eq-eqb (ofPoint p) 0 h)
+
+    one-accepted : add r p ≡ rectAnswer (add r p .value)
+    unfolding add
+    one-accepted = simp (eq-eqb (ofRect r) 0 e, eq-eqb (ofPoint p) 0 h)
+
+    one-good : grow r (a ∷ (b ∷ [])) ≡ add r p
+    one-good =
+        let n = ap (λ (x : Answer). x .refusal) one-accepted in
+        one-call ∙ ap (λ (x : Rect). rectAnswer (asRead x)) (accepted-call r p n) ∙ ap rectAnswer (read-same (add r p .value) (add-plain r p n)) ∙ sym one-accepted
+
+  one-bad : ofRect r ≡ 0 → (ofPoint p ≡ 0 → ⊥) → grow r (a ∷ (b ∷ [])) ≡ add r p
+  unfolding grow startOf grownBy wholeLength pointsOf firstNumber firstRefusal add
+  one-bad e h = simp (eq-eqb (ofRect r) 0 e, ne-eqb (ofPoint p) 0 h)
+
+  pub one-point : grow r (a ∷ (b ∷ [])) ≡ add r p
+  one-point = go (eqb (ofRect r) 0) (eqb (ofPoint p) 0) refl refl
+    where
+      go : (s t : Bool) → eqb (ofRect r) 0 ≡ s → eqb (ofPoint p) 0 ≡ t → grow r (a ∷ (b ∷ [])) ≡ add r p
+      go true true e h = one-good (eqb-true (ofRect r) 0 e) (eqb-true (ofPoint p) 0 h)
+      go true false e h = one-bad (eqb-true (ofRect r) 0 e) (eqb-false (ofPoint p) 0 h)
+      go false t e h = start-refused r (a ∷ (b ∷ [])) (unfold wholeLength in refl) (eqb-false (ofRect r) 0 e) ∙ sym (add-start-refused r p (eqb-false (ofRect r) 0 e))
 
 -- ---- an accepted growth is valid, has no negative zero, and holds every place of the start and each of the points
 pub record Grown (g r : Rect) (ps : List LatLng) : Type 0 where
@@ -250,33 +211,77 @@ pub record Grown (g r : Rect) (ps : List LatLng) : Type 0 where
   pub holds-start : Inside g r
   pub holds-points : (p : LatLng) → Mem p ps → holds g (placeOf p) ≡ true
 
--- after one point more
-add-more : (r : Rect) (p : LatLng) (l : List LatLng) (g : Rect) → Valid r → ValidPoint p → Grown g (add r p .value) l → Grown g r (p ∷ l)
-add-more r p l g v q h =
-    let k = add-holds r p v q in
-    record {
-      is-valid = h .is-valid;
-      no-minus = h .no-minus;
-      holds-start = λ at c e. h .holds-start at c (k .0 at c e);
-      holds-points = go;
-    }
-  where
-    go : (o : LatLng) → Mem o (p ∷ l) → holds g (placeOf o) ≡ true
-    go o first = h .holds-start (placeOf p) (point-place q) (add-holds r p v q .1)
-    go o (later m) = h .holds-points o m
+pub doubles-of : (ps : List LatLng) → All ValidPoint ps → All DoublePoint ps
+doubles-of [] q = tt
+doubles-of (p ∷ l) q = (record { lat-double = q .0 .lat-double; lng-double = q .0 .lng-double }, doubles-of l (q .1))
 
-read-add-holds : (r : Rect) (ps : List LatLng) → Valid r → All ValidPoint ps → Grown (grownAll (asRead r) ps) r ps
-unfolding grownAll
-read-add-holds r [] v q = record { is-valid = valid-read v; no-minus = read-plain r; holds-start = λ at c h. holds-read r v at c ∙ h; holds-points = none }
-  where
-    none : (p : LatLng) → Mem p [] → holds (asRead r) (placeOf p) ≡ true
-    none p = elim [ ]
-read-add-holds r (p ∷ l) v q =
-    let e = ap (λ (x : Rect). grownAll x l) (add-read r p v (q .0)) in
-    subst (λ (g : Rect). Grown g r (p ∷ l)) (sym e) (add-more r p l _ v (q .0) (read-add-holds (add r p .value) l (add-valid v (q .0)) (q .1)))
+valid-at : {p : LatLng} (ps : List LatLng) → All ValidPoint ps → Mem p ps → ValidPoint p
+valid-at (p ∷ l) q first = q .0
+valid-at (o ∷ l) q (later m) = valid-at l (q .1) m
+
+run-grown : (r : Rect) (ps : List LatLng) → Valid r → All ValidPoint ps → Grown (asRead (running r ps)) r ps
+run-grown r ps v q =
+    let d = doubles-of ps q in
+    let w = run-valid r ps v d in
+    record {
+      is-valid = valid-read w;
+      no-minus = read-plain (running r ps);
+      holds-start = λ at c h. holds-read (running r ps) w at c ∙ run-holds r ps v d at c h;
+      holds-points = λ p m. let k = valid-at ps q m in holds-read (running r ps) w (placeOf p) (point-place k) ∙ point-held r ps v d m k;
+    }
 
 pub growth-holds : (r : Rect) (l : List Float) → Accepted r l → Grown (grow r l .value) r (pointsOf l)
-growth-holds r l a = subst (λ (x : Answer). Grown (x .value) r (pointsOf l)) (sym (accepted-is r l a)) (read-add-holds r (pointsOf l) (a .start) (a .points))
+growth-holds r l a = subst (λ (x : Answer). Grown (x .value) r (pointsOf l)) (sym (accepted-is r l a)) (run-grown r (pointsOf l) (a .start) (a .points))
 
 pub growth-plain : (r : Rect) (l : List Float) → Doubles r → All DoublePoint (pointsOf l) → grow r l .refusal ≡ 0 → NoMinusRect (grow r l .value)
 growth-plain r l d e h = growth-holds r l (accepted-exactly r l d e .0 h) .no-minus
+
+-- ---- growth by a list is the running box: every call is accepted, and after a call the box has been read
+pub growth-runs : (r : Rect) (l : List Float) → Accepted r l → (pointsOf l ≡ [] → ⊥) → grow r l ≡ rectAnswer (running r (pointsOf l))
+growth-runs r l a n =
+    accepted-is r l a ∙ ap rectAnswer (read-same (running r (pointsOf l)) (accepted-plain r (pointsOf l) (a .start) (doubles-of (pointsOf l) (a .points)) some))
+  where
+    some : length (acceptedOf r (pointsOf l)) ≡ 0 → ⊥
+    some z = n (no-entry (pointsOf l) (sym (ap length (all-accepted r (pointsOf l) (a .start) (a .points))) ∙ z))
+
+-- ---- the running box by value: its number is the start's
+module _ (r : Rect) (l : List Float) where
+  pub ran-number : ran r l .refusal ≡ startOf r l .refusal
+  unfolding ran ranBy
+  ran-number = go (eqb (startOf r l .refusal) 0) refl
+    where
+      go : (t : Bool) → eqb (startOf r l .refusal) 0 ≡ t → cond t (ranBy r (pointsOf l)) (noCalls (startOf r l)) .refusal ≡ startOf r l .refusal
+      go true e = sym (eqb-true (startOf r l .refusal) 0 e)
+      go false e = refl
+
+  pub ran-list-refused : whole 2 4096 l ≡ false → ran r l ≡ noCalls (under (number badList) r)
+  unfolding ran
+  ran-list-refused w = simp (bad-length r l w)
+
+  pub ran-start-refused : whole 2 4096 l ≡ true → (ofRect r ≡ 0 → ⊥) → ran r l ≡ noCalls (emptyUnder (ofRect r))
+  unfolding ran
+  ran-start-refused w h = simp (start-out r l w h, ne-eqb (ofRect r) 0 h)
+
+  pub ran-is : whole 2 4096 l ≡ true → Valid r → ran r l ≡ ranBy r (pointsOf l)
+  unfolding ran
+  ran-is w v = simp (start-in r l w v)
+
+  pub ran-are : whole 2 4096 l ≡ true → Valid r → ran r l ≡ record { refusal = number accepted; accepted = length (acceptedOf r (pointsOf l)); value = running r (pointsOf l) }
+  unfolding ranBy
+  ran-are w v = ran-is w v
+
+  -- a start's own number n, for its reason
+  pub ran-own : {n : ℕ} {f : Rect → Bool} → RectReason n f → whole 2 4096 l ≡ true → f r ≡ true → ran r l ≡ noCalls (emptyUnder n)
+  ran-own {n} w h k =
+      let e = number-when w r .1 k in
+      ran-start-refused h (λ z. own-not w 0 (unfold ofEntry in refl) (sym e ∙ z)) ∙ ap (λ (m : ℕ). noCalls (emptyUnder m)) e
+
+  -- the bits, and the zeros
+  pub ran-kept : whole 2 4096 l ≡ true → Valid r → ran r l .accepted ≡ 0 → ran r l .value ≡ r
+  ran-kept w v h = ap (λ (a : RunningAnswer). a .value) (ran-are w v) ∙ none-accepted r (pointsOf l) (ap (λ (a : RunningAnswer). a .accepted) (sym (ran-are w v)) ∙ h)
+
+  pub ran-plain : Doubles r → All DoublePoint (pointsOf l) → ran r l .refusal ≡ number accepted → (ran r l .accepted ≡ 0 → ⊥) → NoMinusRect (ran r l .value)
+  ran-plain d e h n =
+      let s = start-0 r l d .0 (sym ran-number ∙ h) in
+      let is = ran-are (s .0) (s .1) in
+      subst (λ (a : RunningAnswer). NoMinusRect (a .value)) (sym is) (accepted-plain r (pointsOf l) (s .1) e (λ z. n (ap (λ (a : RunningAnswer). a .accepted) is ∙ z)))

@@ -1,2 +1,3 @@
+pub mod RunningBox
 pub mod Growth
 pub mod Devices

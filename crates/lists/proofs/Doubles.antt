@@ -20,7 +20,7 @@ use Rattle.s2.specs.declared.reading.One.{One}
 use Rattle.s2.specs.declared.reading.Pair.{Pair}
 use Rattle.s2.specs.Zone.{isValid, validLatitudes, isLatLng}
 use Rattle.s2.specs.Reading.{rectInReach, readPoint}
-use Rattle.s2.specs.Places.{Valid, ValidPoint}
+use Rattle.s2.specs.Places.{Doubles, DoublePoint, Valid, ValidPoint}
 use Rattle.s2.proofs.Readings.{one-in, one-out, one-not-valid, point-in}
 use Rattle.entries.specs.Lists.{Mem, first, later, All}
 use Rattle.lists.specs.Rects.{rectsOf}
@@ -29,13 +29,7 @@ use Rattle.entries.specs.First.{firstNumber}
 use Rattle.lists.specs.Refused.{ofRect, ofPoint, firstRefused, firstBad}
 use Rattle.entries.proofs.First.{Good, none-when}
 
--- ---- a rectangle: all four numbers are doubles
-pub record Doubles (r : Rect) : Type 0 where
-  pub lat-lo : fits binary64 (r .lat .lo) ≡ true
-  pub lat-hi : fits binary64 (r .lat .hi) ≡ true
-  pub lng-lo : fits binary64 (r .lng .lo) ≡ true
-  pub lng-hi : fits binary64 (r .lng .hi) ≡ true
-
+-- ---- a rectangle
 pub valid-of : (r : Rect) → Doubles r → rectInReach r ≡ true → isValid r ≡ true → Valid r
 unfolding rectInReach isValid
 valid-of r d k h =
@@ -65,11 +59,7 @@ rect-decided r d = go (eqb (ofRect r) 0) refl
     go true e = inl (accepted-valid r d (eqb-true (ofRect r) 0 e))
     go false e = inr (eqb-false (ofRect r) 0 e)
 
--- ---- a point: both are
-pub record DoublePoint (p : LatLng) : Type 0 where
-  pub lat-double : fits binary64 (p .lat) ≡ true
-  pub lng-double : fits binary64 (p .lng) ≡ true
-
+-- ---- a point
 pub point-of : (p : LatLng) → DoublePoint p → isLatLng p ≡ true → ValidPoint p
 point-of p d h = record { lat-double = d .lat-double; lng-double = d .lng-double; is-valid = h }
 

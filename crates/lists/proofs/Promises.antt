@@ -17,7 +17,7 @@ use Rattle.s2.specs.declared.rect.Rect.{Rect}
 use Rattle.s2.specs.Zone.{at, box, isLatLng}
 use Rattle.s2.specs.Reading.{readPoint}
 use Rattle.s2.specs.Refusals.{RectReason}
-use Rattle.s2.specs.Places.{Valid, ValidPoint}
+use Rattle.s2.specs.Places.{Valid, ValidPoint, Doubles, DoublePoint}
 use Rattle.s2.proofs.Readings.{point-bad}
 use Rattle.s2.proofs.Refusals.{number-when, own-number}
 use Rattle.entries.specs.declared.records.First.{First}
@@ -31,7 +31,7 @@ use Rattle.entries.proofs.Lengths.{not-whole-when}
 use Rattle.lists.proofs.RectLists as rects
 use Rattle.lists.proofs.PointLists as points
 use Rattle.entries.proofs.First.{IsFirst, none-told, none-when, first-told, first-when}
-use Rattle.lists.proofs.Doubles.{Doubles, DoublePoint, rects-accepted, points-accepted}
+use Rattle.lists.proofs.Doubles.{rects-accepted, points-accepted}
 use Rattle.entries.proofs.Inputs as inputs
 
 -- ---- "Negative zero coming in is read as zero": what has been read has none, and is read as it stands

@@ -15,7 +15,7 @@ use Rattle.s2.specs.declared.rect.Answer.{Answer}
 use Rattle.s2.proofs.rect.Rect as R
 use Rattle.s2.proofs.rect.Answer as G
 use Rattle.s2.proofs.rect.Answer.Laws as G′
-use Rattle.scan.specs.Scan.{kept}
+use Rattle.growth.specs.RunningBox.{kept}
 
 abbrev pub ends : Float → Float → Val
 ends u v = vstruct (vcons (vfloat binary64 u) (vcons (vfloat binary64 v) vnil))
@@ -26,16 +26,13 @@ mach d = vstruct (vcons (ends (d .lat .lo) (d .lat .hi)) (vcons (ends (d .lng .l
 abbrev pub answer-mach : Answer → Val
 answer-mach a = vstruct (vcons (vint w8 (a .refusal)) (vcons (mach (a .value)) vnil))
 
--- what whoever holds an answer knows of its fields, and what whoever makes one owes
+-- what whoever holds an answer knows of its fields
 module _ (a : Answer) where
   pub number-fits : (v : Val) → Is G.the-row a (v ∷ []) → a .refusal < 2 ^ 8
   number-fits v is = LL.owed G.the-type G′.the-laws a _ is .0 .1
 
   pub box-is : (v : Val) → Is G.the-row a (v ∷ []) → Is R.the-row (a .value) (mach (a .value) ∷ [])
   box-is v is = LL.owed G.the-type G′.the-laws a _ is .1 .0
-
-  pub made : a .refusal < 2 ^ 8 → Is R.the-row (a .value) (mach (a .value) ∷ []) → Is G.the-row a (answer-mach a ∷ [])
-  made fits is = LL.owes G.the-type G′.the-laws a ((refl, fits), (is, tt))
 
 -- what is left in the box h after growth answered a: under 0 its rectangle, else h
 module _ (h : Rect) (a : Answer) where

@@ -1,4 +1,3 @@
-pub mod Turns
 pub mod Boxes
 pub mod Laws
 pub mod Examples

@@ -8,7 +8,7 @@ pub mod spoils;
 pub mod worked;
 
 use crate::base::answer::Answer;
-use crate::base::check::Check;
+use crate::base::check::{Check, Tried};
 use crate::base::rng::Rng;
 
 pub use arms::Arm;
@@ -143,11 +143,20 @@ pub struct Family {
     pub edges: fn() -> Vec<(String, Vec<u8>)>,
     /// stored lines that come after those of all kinds
     pub stored_last: &'static [&'static str],
+    pub runs: &'static [Run],
+}
+
+/// Questions that belong together, so many groups of a seed, and what must hold of a door's answers to them.
+pub struct Run {
+    pub name: &'static str,
+    pub questions: fn(usize, u64, &mut dyn FnMut(&str)),
+    /// the answers come one by one, in the order of the questions
+    pub judged: fn(usize, u64, &mut dyn FnMut() -> Option<String>) -> Tried,
 }
 
 impl Family {
     /// A module that has questions and worked answers, and nothing else.
     pub const fn new(kinds: fn() -> Vec<&'static dyn Kind>, worked: fn() -> Vec<(String, String)>) -> Family {
-        Family { kinds, worked, checks: &[], edges: Vec::new, stored_last: &[] }
+        Family { kinds, worked, checks: &[], edges: Vec::new, stored_last: &[], runs: &[] }
     }
 }

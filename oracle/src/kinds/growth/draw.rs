@@ -16,17 +16,18 @@ pub fn short(rng: &mut Rng, way: Way) -> Question {
     let start = start(rng);
     let count = rng.below(SHORT + 1);
     let mut numbers = related(rng, start, count);
-    if rng.percent(8) {
+    // A bad point costs growth the whole list, and a running box that call alone.
+    if rng.percent(if way == Way::Growth { 8 } else { 30 }) {
         spoil(rng, &mut numbers);
     }
-    if rng.percent(2) {
+    if way == Way::Growth && rng.percent(2) {
         numbers.push(rng.pick(&[0.0, -0.0, 1.0, f64::NAN]));
     }
     Question { way, start, numbers }
 }
 
-/// A question with a long list: often of the most points, now and then of one too many, or of an odd
-/// count of numbers.
+/// A question with a long list: often of the most points, now and then of one too many, or for growth of an
+/// odd count of numbers.
 pub fn long(rng: &mut Rng, way: Way) -> Question {
     let start = start(rng);
     let kind = rng.below(8);
@@ -40,7 +41,7 @@ pub fn long(rng: &mut Rng, way: Way) -> Question {
     if rng.percent(15) {
         spoil(rng, &mut numbers);
     }
-    if kind == 3 {
+    if kind == 3 && way == Way::Growth {
         numbers.push(0.0);
     }
     Question { way, start, numbers }
@@ -62,7 +63,7 @@ fn start(rng: &mut Rng) -> Rect {
 }
 
 /// The same rectangle with -0 for some numbers, where that leaves it as good or as bad as it is.
-fn negative_zeros(rng: &mut Rng, rect: Rect) -> Rect {
+pub fn negative_zeros(rng: &mut Rng, rect: Rect) -> Rect {
     let changed = rect.map(|x| if x == 0.0 || rng.percent(30) { -0.0 } else { x });
     if Role::Rect.fault(&changed) == Role::Rect.fault(&rect) {
         changed
@@ -99,7 +100,7 @@ fn path(rng: &mut Rng, count: usize) -> Vec<f64> {
 }
 
 /// A number a little beyond the seam, brought back from the other side.
-fn onto_circle(x: f64) -> f64 {
+pub fn onto_circle(x: f64) -> f64 {
     let turned = if x > PI { x - 2.0 * PI } else { x };
     (if turned < -PI { turned + 2.0 * PI } else { turned }).clamp(-PI, PI)
 }

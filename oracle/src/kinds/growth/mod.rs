@@ -1,14 +1,15 @@
-//! The questions `growth R | ..` and `scan R | ..`: a rectangle grown by a list of points. `growth` takes
-//! the whole list or refuses it whole. `scan` hands the points one by one to the scan worker, which keeps
-//! one running box: a refused point leaves the box as it is, and the next one is tried. Both look at the
-//! length first, then at R. The numbers of an accepted answer come from the crate's own growth by one point
-//! (`rect.add`), first point to last.
+//! The questions `growth R | ..` and `running R | ..`: a rectangle grown by the points of a list. `growth`
+//! takes the whole list or refuses it whole. `running` makes a call of each point on one box that starts as
+//! R: a refused call leaves the box as it is, and the next one is made; the answer says how many were
+//! accepted. Both look at the length first, then at R. The numbers of an accepted answer come from the
+//! crate's own growth by one point (`rect.add`), first point to last.
 
 mod arms;
 mod draw;
 mod places;
 mod question;
 mod stored;
+mod tracks;
 mod worked;
 
 use question::{Question, Way, MOST_NUMBERS, MOST_POINTS};
@@ -23,7 +24,8 @@ use crate::kind::{Arm, Asked, Family, Kind, Spoil, Stored, Wanted, LONG_LIST};
 pub const FAMILY: Family = Family {
     checks: places::CHECKS,
     edges,
-    ..Family::new(|| vec![&Way::Growth, &Way::Scan], || written(worked::WORKED))
+    runs: &[tracks::RUN],
+    ..Family::new(|| vec![&Way::Growth, &Way::Running], || written(worked::WORKED))
 };
 
 impl Asked for Question {
@@ -32,8 +34,12 @@ impl Asked for Question {
     }
 
     fn answer(&self) -> Answer {
-        let (refusal, left) = self.left();
-        Answer { refusal: refusal.into(), words: words::answered(&left) }
+        let left = self.left();
+        let accepted = match self.way {
+            Way::Growth => String::new(),
+            Way::Running => format!(" {}", left.accepted),
+        };
+        Answer { refusal: left.refusal.into(), words: accepted + &words::answered(&left.rect) }
     }
 
     fn arms(&self) -> Vec<Arm> {
@@ -49,12 +55,16 @@ impl Kind for Way {
     fn name(&self) -> &'static str {
         match self {
             Way::Growth => "growth",
-            Way::Scan => "scan",
+            Way::Running => "running",
         }
     }
 
+    /// A running box is refused with 5 only where a line has a point too many, so that no short one is.
     fn refusals(&self) -> Vec<u8> {
-        [&OF_RECT[..], &[BAD_POINT, BAD_LENGTH]].concat()
+        match self {
+            Way::Growth => [&OF_RECT[..], &[BAD_POINT, BAD_LENGTH]].concat(),
+            Way::Running => OF_RECT.to_vec(),
+        }
     }
 
     fn arms(&self) -> Vec<Arm> {
@@ -64,7 +74,9 @@ impl Kind for Way {
     fn read(&'static self, words: &[&[u8]]) -> Option<Box<dyn Asked>> {
         let (start, list) = words.split_at_checked(4)?;
         let (start, numbers) = (words::numbers(start)?, words::list(list, MOST_NUMBERS)?);
-        Some(Box::new(Question { way: *self, start, numbers }))
+        // Half a point is no call.
+        let is_asked = *self == Way::Growth || numbers.len() % 2 == 0;
+        is_asked.then(|| Box::new(Question { way: *self, start, numbers }) as Box<dyn Asked>)
     }
 
     fn draw(&'static self, rng: &mut Rng, _: Wanted) -> Box<dyn Asked> {
@@ -97,5 +109,5 @@ fn edges() -> Vec<(String, Vec<u8>)> {
         let lines = counts.flat_map(|count| (list(count).line() + "\n").into_bytes()).collect();
         (format!("{}-of-most-points", way.name()), lines)
     };
-    vec![input(Way::Growth), input(Way::Scan)]
+    vec![input(Way::Growth), input(Way::Running)]
 }

@@ -1,47 +1,49 @@
-//! What document 01 says of growth by a list of points, over places; and how the whole list, the running
-//! box of `scan` and growth by one point agree.
+//! What document 01 says of growth by a list of points, over places; and how the whole list, the running box
+//! and growth by one point agree. What document 02 says of the running box is tried on whole tracks
+//! (`tracks.rs`).
 
 use super::draw;
-use super::question::{by_one, Question, Way};
+use super::question::{by_one, Left, Question, Way};
+use super::tracks;
 use crate::base::answer::{ACCEPTED, BAD_POINT};
 use crate::base::check::{drawn, Check, Statements};
 use crate::base::places::{held, place_of, telling_places};
-use crate::base::roles::{is_negative_zero, rect_is_valid, seam_as_pi, Point, Rect, Role};
+use crate::base::roles::{is_negative_zero, rect_is_valid, seam_as_pi, Point, Rect};
 use crate::kind::Asked;
 
-pub const CHECKS: &[Check] = &[("lists of points against places", || {
-    drawn("places of growth", 50_000, |rng, tried| {
-        let drawn = draw::short(rng, Way::Growth);
-        let numbers = drawn.numbers().unwrap_or_default();
-        tried.hold_all(statements(drawn.start, &drawn.numbers), &numbers);
-    })
-})];
+pub const CHECKS: &[Check] = &[
+    ("lists of points against places", || {
+        drawn("places of growth", 50_000, |rng, tried| {
+            let drawn = draw::short(rng, Way::Growth);
+            let numbers = drawn.numbers().unwrap_or_default();
+            tried.hold_all(statements(drawn.start, &drawn.numbers), &numbers);
+        })
+    }),
+    ("tracks against the promises of the running box", tracks::of_the_oracle),
+];
 
-/// The refusal number, and the rectangle that is left.
-fn asked(way: Way, start: Rect, list: &[f64]) -> (u8, Rect) {
+fn asked(way: Way, start: Rect, list: &[f64]) -> Left {
     Question { way, start, numbers: list.to_vec() }.left()
 }
 
 fn statements(start: Rect, list: &[f64]) -> Statements {
     let points: Vec<Point> = list.chunks_exact(2).map(|n| [n[0], n[1]]).collect();
-    match asked(Way::Growth, start, list) {
-        (ACCEPTED, grown) => [over_places(start, &points, grown), in_parts(start, &points, grown)].concat(),
-        (BAD_POINT, left) => {
-            let valid: Vec<Point> =
-                points.into_iter().filter(|p| Role::LatLng.fault(p) == ACCEPTED).collect();
-            let (number, running) = asked(Way::Scan, start, list);
-            let of_valid = asked(Way::Growth, start, &valid.concat()).1;
-            vec![
-                ("a bad point hands back the start's bits", bits(left) == bits(start)),
-                ("a bad point gives the running box its number", number == BAD_POINT),
-                ("the running box grows by the valid points alone", running == of_valid),
-                ("by bad points alone it keeps its bits", !valid.is_empty() || bits(running) == bits(start)),
-            ]
+    let (growth, running) = (asked(Way::Growth, start, list), asked(Way::Running, start, list));
+    match growth.refusal {
+        ACCEPTED => {
+            let grown = growth.rect;
+            [over_places(start, &points, grown), in_parts(start, &points, grown)].concat()
         }
-        (number, left) => {
-            let (of_scan, running) = asked(Way::Scan, start, list);
-            let alike = of_scan == number && bits(running) == bits(left);
-            vec![("a list or a start is refused alike for the running box", alike)]
+        BAD_POINT => vec![
+            ("a bad point hands back the start's bits", bits(growth.rect) == bits(start)),
+            ("a bad point does not refuse the running box", running.refusal == ACCEPTED),
+        ],
+        number => {
+            let alike = running.refusal == number && bits(running.rect) == bits(growth.rect);
+            vec![
+                ("a list or a start is refused alike for the running box", alike),
+                ("no call of it was accepted", running.accepted == 0),
+            ]
         }
     }
 }
@@ -64,14 +66,16 @@ fn over_places(start: Rect, points: &[Point], grown: Rect) -> Statements {
 fn in_parts(start: Rect, points: &[Point], grown: Rect) -> Statements {
     let one_more = |before: Rect, p: &Point| by_one(before, *p).1.numbers();
     let cut_at = |at: usize| {
-        let first = asked(Way::Growth, start, &points[..at].concat()).1;
-        asked(Way::Growth, first, &points[at..].concat()).1
+        let first = asked(Way::Growth, start, &points[..at].concat()).rect;
+        asked(Way::Growth, first, &points[at..].concat()).rect
     };
-    let (number, running) = asked(Way::Scan, start, &points.concat());
+    let running = asked(Way::Running, start, &points.concat());
+    let last = if points.is_empty() { start } else { grown };
     vec![
         ("growth is growth by one point after the other", points.iter().fold(start, one_more) == grown),
         ("growth by a list is growth by its parts", (0..=points.len()).all(|at| cut_at(at) == grown)),
-        ("the running box becomes the same", number == ACCEPTED && bits(running) == bits(grown)),
+        ("the running box becomes the same", bits(running.rect) == bits(last)),
+        ("and all its calls are accepted", running.accepted == points.len()),
     ]
 }
 

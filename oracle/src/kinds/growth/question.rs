@@ -1,4 +1,4 @@
-//! A question of growth by a list, and the rectangle that is left.
+//! A question of growth by a list or of the running box, and the rectangle that is left.
 
 use crate::base::answer::{ACCEPTED, BAD_LENGTH};
 use crate::base::roles::{plain, Point, Rect, Role, EMPTY};
@@ -13,7 +13,7 @@ pub const MOST_NUMBERS: usize = 2 * (MOST_POINTS + 1);
 #[derive(Clone, Copy, PartialEq)]
 pub enum Way {
     Growth,
-    Scan,
+    Running,
 }
 
 /// A question: the rectangle that growth starts with, and the numbers of the list.
@@ -22,6 +22,14 @@ pub struct Question {
     pub way: Way,
     pub start: Rect,
     pub numbers: Vec<f64>,
+}
+
+/// What is left: the refusal number, how many of the calls were accepted, and the rectangle.
+#[derive(Clone, Copy)]
+pub struct Left {
+    pub refusal: u8,
+    pub accepted: usize,
+    pub rect: Rect,
 }
 
 /// Growth by one point, as the table of operations has it.
@@ -48,36 +56,39 @@ impl Question {
         self.numbers.chunks_exact(2).map(|n| [n[0], n[1]])
     }
 
-    /// The refusal number, and the rectangle that is left.
-    pub fn left(&self) -> (u8, Rect) {
+    pub fn left(&self) -> Left {
+        let refused = |refusal, rect| Left { refusal, accepted: 0, rect };
         match (self.has_bad_length(), Role::Rect.fault(&self.start)) {
-            (true, _) => (BAD_LENGTH, self.start),
-            (false, ACCEPTED) if self.way == Way::Growth => self.grown(),
-            (false, ACCEPTED) => self.scanned(),
-            (false, number) => (number, EMPTY),
+            (true, _) => refused(BAD_LENGTH, self.start),
+            (false, ACCEPTED) => match (self.way, self.first_bad()) {
+                (Way::Running, _) => self.ran(),
+                (Way::Growth, Some(number)) => refused(number, self.start),
+                (Way::Growth, None) => self.grown(),
+            },
+            (false, number) => refused(number, EMPTY),
         }
     }
 
-    /// The crate's growth from the first point to the last. A bad point hands back the start with its bits.
-    fn grown(&self) -> (u8, Rect) {
-        match self.points().map(|point| Role::LatLng.fault(&point)).find(|number| *number != ACCEPTED) {
-            Some(number) => (number, self.start),
-            None => (ACCEPTED, self.points().fold(self.start, by_the_crate).map(plain)),
-        }
+    /// The refusal number of the first point that has one.
+    fn first_bad(&self) -> Option<u8> {
+        self.points().map(|point| Role::LatLng.fault(&point)).find(|number| *number != ACCEPTED)
     }
 
-    /// The running box stores the result of an accepted point and keeps every bit at a refused one. The number
-    /// is that of the last refusal. An answer under 0 has no negative zero; a refusal hands the running box back
-    /// with its bits.
-    fn scanned(&self) -> (u8, Rect) {
-        let mut last = ACCEPTED;
-        let mut running = self.start;
+    /// The crate's growth from the first point to the last.
+    fn grown(&self) -> Left {
+        let rect = self.points().fold(self.start, by_the_crate).map(plain);
+        Left { refusal: ACCEPTED, accepted: self.points().count(), rect }
+    }
+
+    /// Each point is a call of growth: accepted, its answer is the box; refused, the box keeps every bit.
+    fn ran(&self) -> Left {
+        let mut left = Left { refusal: ACCEPTED, accepted: 0, rect: self.start };
         for point in self.points() {
-            match by_one(running, point) {
-                (ACCEPTED, grown) => running = grown.numbers(),
-                (number, _) => last = number,
+            if let (ACCEPTED, grown) = by_one(left.rect, point) {
+                left.rect = grown.numbers();
+                left.accepted += 1;
             }
         }
-        (last, if last == ACCEPTED { running.map(plain) } else { running })
+        left
     }
 }

@@ -1,4 +1,4 @@
-//! The stored questions of `growth` and `scan`: starts and points that are special by their kind, bad ones
+//! The stored questions of `growth` and `running`: starts and points that are special by their kind, bad ones
 //! at each position, lists in every order, the longest lists, and lines that are no question. Both have the
 //! same, but for the longest: such a line takes 140 kB.
 
@@ -8,7 +8,7 @@ use super::question::{Question, Way, MOST_POINTS};
 use crate::base::roles::{Point, Rect, BEYOND, EMPTY, NEXT_TO_SEAM, REACH};
 use crate::draw::rect::{FAULTY, KNOWN};
 use crate::kind::spoils::OF_LISTS;
-use crate::kind::{boxed, Kind, Stored};
+use crate::kind::{boxed, Asked, Kind, Stored};
 
 /// A start with nothing special about it, one with negative zeros, and one on each side of the seam.
 const PLAIN: Rect = [0.0, 1.0, 0.0, 1.0];
@@ -75,12 +75,17 @@ const BAD_POINTS: &[Point] = &[
 
 pub fn of(way: Way) -> Stored {
     let kinds = [no_points, one_point, bad_at_each_position, bad_alone, bad_lengths, orders];
+    let asked = kinds.into_iter().flat_map(|kind| kind(way));
+    // Half a point is no call.
+    let (special, halves): (Vec<_>, Vec<_>) =
+        asked.partition(|asked| way == Way::Growth || asked.numbers.len() % 2 == 0);
+    let halves = halves.iter().map(|asked| asked.line().into_bytes());
     Stored {
-        special: boxed(kinds.into_iter().flat_map(|kind| kind(way))),
+        special: boxed(special),
         each_arm: 3,
         free: 40,
         longest: boxed(longest(way)),
-        no_questions: no_questions(way),
+        no_questions: no_questions(way).into_iter().chain(halves).collect(),
         // A list too long is tried by `oracle/edges`.
         spoils: OF_LISTS.split_last().map_or(&[], |(_, others)| others),
         last: Vec::new(),
@@ -161,6 +166,13 @@ fn orders(way: Way) -> Vec<Question> {
         let points = order.map(|at| three[at]);
         asked.extend([EMPTY, WEST].map(|start| grow(way, start, &points)));
     }
+    // docs/ANSWERS.md: the fewest calls whose order matters, and three of which one order needs less
+    for points in [&[[0.0, 0.0], [0.0, PI]][..], &[[0.0, 0.0], [0.0, 2.0], [0.0, -2.0]]] {
+        let turned = [&points[1..], &points[..1]].concat();
+        asked.extend([points, &turned].map(|points| grow(way, EMPTY, points)));
+    }
+    asked.push(grow(way, ZEROS, &[[0.5, 2.0], [1.0, 4.0], [1.0, -0.5]]));
+    asked.push(grow(way, ZEROS, &[[1.0, 4.0]]));
     let east: Vec<Point> = [3.1, PI, -PI, NEXT_TO_SEAM, -3.1, -2.0].map(|lng| [0.5, lng]).to_vec();
     let west: Vec<Point> = east.iter().rev().map(|[lat, lng]| [*lat, -lng]).collect();
     for count in 1..=east.len() {
@@ -177,7 +189,7 @@ fn longest(way: Way) -> [Question; 2] {
         let lng = 2.0 + at as f64 / 2_048.0;
         [at as f64 / 4_096.0, if lng > PI { lng - 2.0 * PI } else { lng }]
     };
-    let is_bad = |at: usize| way == Way::Scan && at % 64 == 63;
+    let is_bad = |at: usize| way == Way::Running && at % 64 == 63;
     let point = |at: usize| if is_bad(at) { [step(at)[0], 4.0] } else { step(at) };
     let points: Vec<Point> = (0..=MOST_POINTS).map(point).collect();
     [grow(way, EMPTY, &points[..MOST_POINTS]), grow(way, ODD_STARTS[1], &points)]

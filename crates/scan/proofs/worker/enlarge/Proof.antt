@@ -1,7 +1,7 @@
 -- `scan::worker::enlarge` meets its contract: a walk of its MIR, by hand. The borrow is opened, the box is copied out and passed to `grow_point`, and its
 -- number is tested. Under 0 what it answered is stored and the borrow is closed at that; else nothing is stored and it is closed at what it held.
 -- All that the proof knows of `grow_point` is that it meets its contract. Assumes nothing.
-use mathlib.Core.Path.{_≡_, refl, ap, _∙_}
+use mathlib.Core.Path.{_≡_, refl, sym, ap, _∙_}
 use Prim.Native.Nat.{ℕ, _<_, _^_}
 use mathlib.Core.Bool.{Bool, true}
 use mathlib.Core.List.{[], _∷_, List}
@@ -50,7 +50,9 @@ use Rattle.s2.proofs.rect.Rect as T
 use Rattle.s2.proofs.rect.Rect.Laws as T′
 use Rattle.s2.proofs.rect.Answer as G
 use Rattle.s2.proofs.rect.Answer.Laws as G′
-use Rattle.scan.specs.Scan.{kept, enlarge}
+use Rattle.growth.specs.RunningBox.{kept}
+use Rattle.growth.proofs.RunningBox.{call-is}
+use Rattle.scan.specs.Scan.{enlarge}
 use Rattle.scan.proofs.Boxes.{mach, answer-mach, number-fits, box-is, stored, left}
 use Rattle.scan.proofs.worker.grow_point as grow
 use Rattle.scan.proofs.worker.grow_point.Symbol as grow-def
@@ -75,7 +77,7 @@ Grow 𝓤 H A mem run = tripleOf 𝓤 H A grow.signature (grow.spec 𝓤 H A mem
 -- what the contract says of the number and of the box w that is left, by what growth answered
 says-so : (h : Rect) (n m : Float) (r : Answer) (w : Rect) → r ≡ add h (point n m) → w ≡ kept h r → (r .refusal ≡ enlarge h (point n m) .refusal) × (w ≡ enlarge h (point n m) .value)
 unfolding enlarge
-says-so h n m r w e k = (ap (λ (a : Answer). a .refusal) e, k ∙ ap (kept h) e)
+says-so h n m r w e k = (ap (λ (a : Answer). a .refusal) e, k ∙ ap (kept h) e ∙ sym (call-is h (point n m)))
 
 module _ {M : Type 1} (𝓤 : URA M) (H : Heap 𝓤) (A : Atoms 𝓤) (W : Given 𝓤 H A) (at-mem : Memory → SProp 𝓤) (run : Routine → Fun 𝓤) (κ : Lft) (q : Share) (b o : ℕ) (γ : GName) (h : Rect) (n m : Float) where
   abbrev x : Arg

@@ -50,7 +50,8 @@ use Rattle.s2.proofs.rect.Rect as T
 use Rattle.s2.proofs.rect.Rect.Laws as T′
 use Rattle.s2.proofs.rect.Answer as G
 use Rattle.s2.proofs.rect.Answer.Laws as G′
-use Rattle.scan.specs.Scan.{kept, enlargeAll}
+use Rattle.growth.specs.RunningBox.{kept}
+use Rattle.scan.specs.Scan.{enlargeAll}
 use Rattle.scan.proofs.Boxes.{mach, answer-mach, number-fits, box-is, stored, left}
 use Rattle.growth.proofs.grow as grow
 use Rattle.growth.proofs.grow.Symbol as grow-def

@@ -1,7 +1,7 @@
--- `growth::growth::is_on`: each branch is a case of `isOn`. Assumes nothing.
+-- `growth::calls::is_on`: each branch is a case of `isOn`. Assumes nothing.
 use Rattle.growth.specs.Devices.{isOn}
-use Rattle.growth.proofs.growth.is_on.Statement.{statement}
-use Rattle.growth.proofs.growth.is_on.Tie as tie
+use Rattle.growth.proofs.calls.is_on.Statement.{statement}
+use Rattle.growth.proofs.calls.is_on.Tie as tie
 
 returns : tie.Need-returns
 unfolding isOn

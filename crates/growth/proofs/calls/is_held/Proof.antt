@@ -1,8 +1,8 @@
--- `growth::growth::is_held`: the tests are those of `isHeld`, in its order. Assumes nothing.
+-- `growth::calls::is_held`: the tests are those of `isHeld`, in its order. Assumes nothing.
 use borrow.Author.Needs.{needs}
 use Rattle.growth.specs.Devices.{isHeld}
-use Rattle.growth.proofs.growth.is_held.Statement.{statement}
-use Rattle.growth.proofs.growth.is_held.Tie as tie
+use Rattle.growth.proofs.calls.is_held.Statement.{statement}
+use Rattle.growth.proofs.calls.is_held.Tie as tie
 
 is-on-requires : tie.Need-is-on-requires
 is-on-requires c κs = search needs
