@@ -8,7 +8,8 @@
  *
  * NUMBERS. Angles are radians, in doubles. Latitudes go from -PI/2 to PI/2, longitudes from -PI to PI, east
  * positive; PI is the double 3.141592653589793. Negative zero that comes in is read as zero, and an accepted
- * answer has no negative zero. A number is "in reach" if it is no NaN and of size at most 2 to the power 500.
+ * answer has no negative zero, but for a running box of which no call was accepted (sjurnabel_running). A number
+ * is "in reach" if it is no NaN and of size at most 2 to the power 500.
  * Comparisons are exact. Lengths, distances, middles, margins and radians are computed in doubles, each sum,
  * difference, product and quotient rounded once; the remainder is exact.
  *

@@ -262,13 +262,9 @@ module _ (r : Rect) (l : List Float) where
   unfolding ran
   ran-start-refused w h = simp (start-out r l w h, ne-eqb (ofRect r) 0 h)
 
-  pub ran-is : whole 2 4096 l ≡ true → Valid r → ran r l ≡ ranBy r (pointsOf l)
-  unfolding ran
-  ran-is w v = simp (start-in r l w v)
-
   pub ran-are : whole 2 4096 l ≡ true → Valid r → ran r l ≡ record { refusal = number accepted; accepted = length (acceptedOf r (pointsOf l)); value = running r (pointsOf l) }
-  unfolding ranBy
-  ran-are w v = ran-is w v
+  unfolding ran ranBy
+  ran-are w v = simp (start-in r l w v)
 
   -- a start's own number n, for its reason
   pub ran-own : {n : ℕ} {f : Rect → Bool} → RectReason n f → whole 2 4096 l ≡ true → f r ≡ true → ran r l ≡ noCalls (emptyUnder n)

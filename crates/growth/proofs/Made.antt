@@ -30,7 +30,7 @@ use Rattle.growth.specs.RunningBox.{running, acceptedOf}
 use Rattle.growth.specs.Growth.{under, startOf, grownBy, grow, ranBy, noCalls, ran}
 use Rattle.growth.specs.Devices.{badIn, Started, Growing, AfterCalls}
 use Rattle.growth.proofs.RunningBox.{read-same, read-first, accepted-count, none-accepted, accepted-plain}
-use Rattle.growth.proofs.Laws.{start-0, start-in, grown-valid, ran-is}
+use Rattle.growth.proofs.Laws.{start-0, start-in, grown-valid, ran-are}
 
 -- ---- growth's number, by how many points are refused
 abbrev by-count : ℕ → ℕ
@@ -121,5 +121,4 @@ module _ {r : Rect} {l : List Float} {x : Answer} (s : Started r l x) where
           go false z = box-is ∙ read-same (running r ps) (accepted-plain r ps (good .1) (s .points) (λ n. eqb-false rest 0 z (sym counted ∙ n)))
 
       pub ran-made : (b : Rect) → b ≡ cond (eqb rest 0) r (a .value) → ran r l ≡ record { refusal = number accepted; accepted = rest; value = b }
-      unfolding ranBy
-      ran-made b h = ran-is r l (good .0) (good .1) ∙ (λ i. record { refusal = number accepted; accepted = counted i; value = sym (kept-is b h) i })
+      ran-made b h = ran-are r l (good .0) (good .1) ∙ (λ i. record { refusal = number accepted; accepted = counted i; value = sym (kept-is b h) i })

@@ -1,6 +1,6 @@
 -- What documents 01 and 02 promise of the scan worker, in their order and words, each as one theorem with all that it asks in its own signature. Each is a law
 -- of proofs/Laws.antt. The numbers handed in are doubles, as all numbers are that a program hands in (`Doubles`, `DoublePoint`). Assumes nothing.
-use mathlib.Core.Path.{_≡_, ap}
+use mathlib.Core.Path.{_≡_, refl, ap}
 use mathlib.Core.List.{List, [], foldl}
 use lib.Ieee.{Float}
 use Rattle.consts.specs.Refusal.{number, accepted}
@@ -38,6 +38,11 @@ worker-grows b p h = laws.point-accepted b p h
 
 pub worker-grows-by-list : (b : Rect) (l : List Float) → grow b l .refusal ≡ number accepted → enlargeAll b l ≡ grow b l
 worker-grows-by-list b l h = laws.list-accepted b l h
+
+-- and whatever the number is, it is growth's
+pub worker-numbers : (b : Rect) (p : LatLng) (l : List Float) → (enlarge b p .refusal ≡ add b p .refusal) × (enlargeAll b l .refusal ≡ grow b l .refusal)
+unfolding enlarge enlargeAll
+worker-numbers b p l = (refl, refl)
 
 -- ---- T-04: the worker's box is the running box. After any calls with points, each on the box that the one before left, refused ones among them
 pub worker-runs : (start : Rect) (calls : List LatLng) → foldl (λ (b : Rect) (p : LatLng). enlarge b p .value) start calls ≡ running start calls

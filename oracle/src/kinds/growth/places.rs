@@ -3,7 +3,7 @@
 //! (`tracks.rs`).
 
 use super::draw;
-use super::question::{by_one, Left, Question, Way};
+use super::question::{bits, by_one, Left, Question, Way};
 use super::tracks;
 use crate::base::answer::{ACCEPTED, BAD_POINT};
 use crate::base::check::{drawn, Check, Statements};
@@ -77,8 +77,4 @@ fn in_parts(start: Rect, points: &[Point], grown: Rect) -> Statements {
         ("the running box becomes the same", bits(running.rect) == bits(last)),
         ("and all its calls are accepted", running.accepted == points.len()),
     ]
-}
-
-fn bits(rect: Rect) -> [u64; 4] {
-    rect.map(f64::to_bits)
 }

@@ -32,6 +32,11 @@ pub struct Left {
     pub rect: Rect,
 }
 
+/// A rectangle's bits, by which both zeros are two.
+pub fn bits(rect: Rect) -> [u64; 4] {
+    rect.map(f64::to_bits)
+}
+
 /// Growth by one point, as the table of operations has it.
 pub fn one_point() -> &'static Op {
     find(rect::ops::OPS, "rect.add")

@@ -5,7 +5,7 @@
 use std::f64::consts::{FRAC_PI_2, PI};
 
 use super::draw::{negative_zeros, onto_circle};
-use super::question::{Question, Way, MOST_POINTS};
+use super::question::{bits, Question, Way, MOST_POINTS};
 use crate::base::answer::ACCEPTED;
 use crate::base::check::{Statements, Tried};
 use crate::base::places::{held, place_of, telling_places};
@@ -45,10 +45,6 @@ struct Had {
 
 fn is_valid(point: &Point) -> bool {
     Role::LatLng.fault(point) == ACCEPTED
-}
-
-fn bits(rect: Rect) -> [u64; 4] {
-    rect.map(f64::to_bits)
 }
 
 /// `count` tracks of a seed, one after the other.

@@ -57,14 +57,8 @@ loop-holds c = (no-calls-yet (c .before .pre), refl)
 held-until-requires : tie.Need-held-until-requires Inv-loop μ-loop
 held-until-requires c κs = c .before .loop .inv .0 .left
 
-read-point-at-requires : tie.Need-read-point-at-requires Inv-loop μ-loop
-read-point-at-requires c κs = search needs
-
 add-i : tie.Need-add-i Inv-loop μ-loop
 add-i c = let a = so-far (c .before .before) in omega (arith, a .left .at-point, a .left .whole)
-
-add-requires : tie.Need-add-requires Inv-loop μ-loop
-add-requires c κs = search needs
 
 loop-less : tie.Need-loop-less Inv-loop μ-loop
 loop-less c = let h = held (c .before .before) in omega (arith, h .held-until .ensures .from, whole-point (c .before .before))
@@ -107,9 +101,9 @@ calls-spec =
     μ-loop
     loop-holds
     held-until-requires
-    read-point-at-requires
+    (λ c κs. search needs)
     add-i
-    add-requires
+    (λ c κs. search needs)
     loop-less
     loop-again
     add-refused

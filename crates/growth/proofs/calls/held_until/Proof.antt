@@ -23,32 +23,8 @@ abbrev μ-loop : tie.MeasureT-loop
 loop-holds : tie.Need-loop-holds Inv-loop μ-loop
 loop-holds c = (record { box = refl; bad = refl; from = omega arith; up-to = omega arith; whole = omega arith }, refl)
 
-mul-is-held : tie.Need-mul-is-held Inv-loop μ-loop
-mul-is-held c = search needs
-
-shared-slice-read-is-held : tie.Need-shared-slice-read-is-held Inv-loop μ-loop
-shared-slice-read-is-held c = search needs
-
-add-is-held : tie.Need-add-is-held Inv-loop μ-loop
-add-is-held c = search needs
-
-mul-is-held-2 : tie.Need-mul-is-held-2 Inv-loop μ-loop
-mul-is-held-2 c = search needs
-
-shared-slice-read-is-held-2 : tie.Need-shared-slice-read-is-held-2 Inv-loop μ-loop
-shared-slice-read-is-held-2 c = search needs
-
-is-held-requires : tie.Need-is-held-requires Inv-loop μ-loop
-is-held-requires c κs = search needs
-
 returns : tie.Need-returns Inv-loop μ-loop
 returns c = c .before .before .before .before .before .loop .inv .0
-
-add-i : tie.Need-add-i Inv-loop μ-loop
-add-i c = search needs
-
-loop-less : tie.Need-loop-less Inv-loop μ-loop
-loop-less c = search needs
 
 loop-again : tie.Need-loop-again Inv-loop μ-loop
 loop-again c =
@@ -82,14 +58,14 @@ held-until-spec =
     Inv-loop
     μ-loop
     loop-holds
-    mul-is-held
-    shared-slice-read-is-held
-    add-is-held
-    mul-is-held-2
-    shared-slice-read-is-held-2
-    is-held-requires
+    (λ c. search needs)
+    (λ c. search needs)
+    (λ c. search needs)
+    (λ c. search needs)
+    (λ c. search needs)
+    (λ c κs. search needs)
     returns
-    add-i
-    loop-less
+    (λ c. search needs)
+    (λ c. search needs)
     loop-again
     returns-2)

@@ -5,9 +5,6 @@ use Rattle.growth.proofs.Made.{grow-refused, growing, grow-bad, grow-go
 use Rattle.growth.proofs.growth.grow.Statement.{statement}
 use Rattle.growth.proofs.growth.grow.Tie as tie
 
-start-of-requires : tie.Need-start-of-requires
-start-of-requires c κs = search needs
-
 returns : tie.Need-returns
 returns c = sym (grow-refused (c .before .before .start-of .ensures) (c .if1 .taken))
 
@@ -25,4 +22,4 @@ returns-3 c =
     sym (grow-good (made .before .before .before .start-of .ensures) (made .before .if1 .left) (made .calls .ensures) (c .before .if2 .left))
 
 pub grow-spec : {M : Type 1} → statement M
-grow-spec = tie.close (tie.spec start-of-requires returns calls-requires returns-2 returns-3)
+grow-spec = tie.close (tie.spec (λ c κs. search needs) returns calls-requires returns-2 returns-3)

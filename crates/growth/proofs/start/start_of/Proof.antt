@@ -29,17 +29,11 @@ double-points c = all-double-points (c .before .args .points .now) (c .shared-sl
 so : (c : Entry) (a : Answer) → a ≡ startOf (c .before .args .r) (c .before .args .points .now) → Started (c .before .args .r) (c .before .args .points .now) a
 so c a e = started (doubles c) (double-points c) e
 
-whole-requires : tie.Need-whole-requires
-whole-requires c κs = search needs
-
 returns : tie.Need-returns
 returns c =
     let at-list = c .before in
     let a = at-list .before .before .args in
     so (at-list .before) _ (sym (bad-length (a .r) (a .points .now) (sym (at-list .whole .ensures) ∙ taken (c .if1 .taken))))
-
-read-one-requires : tie.Need-read-one-requires
-read-one-requires c κs = search needs
 
 returns-2 : tie.Need-returns-2
 returns-2 c =
@@ -60,4 +54,4 @@ returns-3 c =
     so (at-list .before) _ (sym (start-read (a .r) (a .points .now) w (x .result) (x .ensures) (c .before .if2 .left)))
 
 pub start-of-spec : {M : Type 1} → statement M
-start-of-spec = tie.close (tie.spec whole-requires returns read-one-requires returns-2 returns-3)
+start-of-spec = tie.close (tie.spec (λ c κs. search needs) returns (λ c κs. search needs) returns-2 returns-3)

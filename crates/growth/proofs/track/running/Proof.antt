@@ -5,9 +5,6 @@ use Rattle.growth.proofs.Made.{ran-refused, growing, few, ran-made}
 use Rattle.growth.proofs.track.running.Statement.{statement}
 use Rattle.growth.proofs.track.running.Tie as tie
 
-start-of-requires : tie.Need-start-of-requires
-start-of-requires c κs = search needs
-
 returns : tie.Need-returns
 returns c = sym (ran-refused (c .before .before .before .start-of .ensures) (c .before .if1 .taken))
 
@@ -19,13 +16,10 @@ sub-accepted c =
     let made = c .before in
     few (made .before .before .before .start-of .ensures) (made .before .if1 .left) (made .calls .ensures)
 
-kept-requires : tie.Need-kept-requires
-kept-requires c κs = search needs
-
 returns-2 : tie.Need-returns-2
 returns-2 c =
     let made = c .before .before in
     sym (ran-made (made .before .before .before .start-of .ensures) (made .before .if1 .left) (made .calls .ensures) (c .kept .result) (c .kept .ensures))
 
 pub running-spec : {M : Type 1} → statement M
-running-spec = tie.close (tie.spec start-of-requires returns calls-requires sub-accepted kept-requires returns-2)
+running-spec = tie.close (tie.spec (λ c κs. search needs) returns calls-requires sub-accepted (λ c κs. search needs) returns-2)
