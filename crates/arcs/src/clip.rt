@@ -44,7 +44,7 @@ fn end_of(x: Interval, s: f64, e: f64) -> f64
 }
 
 // How many pieces are left, whether one held the arc's western end, and where that one ended.
-#[derive(Drop)]
+#[derive(Clone, Copy)]
 struct Cut {
     n: usize,
     open: bool,
@@ -151,7 +151,7 @@ pub(crate) fn clip_one(lo: &mut [f64], hi: &mut [f64], m: usize, a: Interval) ->
 }
 
 // How many arcs have clipped, and how many pieces there are then.
-#[derive(Drop)]
+#[derive(Clone, Copy)]
 pub(crate) struct Clipped {
     pub(crate) k: usize,
     pub(crate) m: usize,

@@ -3,6 +3,8 @@
 // the seam are narrowed to one (`narrowed`), and the others lie in two lent arrays. `meet` finds the common
 // pieces of them all. One piece is clipped by arcs that cross the seam (`sweep`), which are put in order
 // before (the crate `sort`); `clip` clips any pieces by any arc.
+#![tactic(auto)]
+
 mod clip;
 mod meeting;
 mod sweep;

@@ -15,7 +15,7 @@ use s1::circle;
 use s1::interval::Interval;
 
 // Where a sweep stopped: at the arc k, with f pieces settled, which end at b or before it, and x after them.
-#[derive(Drop)]
+#[derive(Clone, Copy)]
 struct Swept {
     k: usize,
     f: usize,

@@ -19,7 +19,7 @@ const MOST: usize = 99;
 const BEFORE: u8 = b'_';
 
 // A box as it is read, or that the bytes are none.
-#[derive(Drop)]
+#[derive(Clone, Copy)]
 enum Asked {
     Of(Bounds),
     Bad,

@@ -5,6 +5,8 @@
 // This file has the stream of lines. parse.rt reads a line, a file for each layer (line.rt, circle.rt,
 // rect.rt, common.rt, points.rt, boxes.rt) has that layer's questions, and print.rt writes an answer
 // (reply.rt) as text.
+#![tactic(auto)]
+
 mod boxes;
 mod circle;
 mod common;
@@ -28,7 +30,7 @@ use libc::{STDERR_FILENO, STDIN_FILENO, STDOUT_FILENO};
 const LONGEST: usize = 200000;
 
 // How far a line's text and the output have come.
-#[derive(Drop)]
+#[derive(Clone, Copy)]
 struct Place {
     // how many bytes of a line that has not ended stand in its buffer
     text: usize,

@@ -24,28 +24,28 @@ const NO_DECIMAL: usize = 1000000000000000000;
 const BEYOND: usize = 100000000000000000;
 
 // A number as it is read, or that the bytes are none.
-#[derive(Drop)]
+#[derive(Clone, Copy)]
 enum Read {
     Of(f64),
     Bad,
 }
 
 // A number of two digits as it is read, or that the bytes are none.
-#[derive(Drop)]
+#[derive(Clone, Copy)]
 pub enum Octet {
     Of(u8),
     Bad,
 }
 
 // A room as it is read, with the place where it ends.
-#[derive(Drop)]
+#[derive(Clone, Copy)]
 pub struct Room {
     pub count: usize,
     pub end: usize,
 }
 
 // A whole number as it is read, with the place where it ends, or that the bytes are none.
-#[derive(Drop)]
+#[derive(Clone, Copy)]
 pub enum Whole {
     Of(i64, usize),
     Bad,

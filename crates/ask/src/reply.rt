@@ -1,7 +1,7 @@
 // What a question is answered with, before it is text: a refusal number, and the result beside it.
 use consts::{Number, YesNo};
 
-#[derive(Drop)]
+#[derive(Clone, Copy)]
 pub enum Reply {
     // The line is no question.
     Unknown,

@@ -5,14 +5,14 @@ ghost use Rattle.bbox_text.specs.Grammar.{is_digit};
 ghost use Rattle.bbox.specs.Reading.{turn_of, whole_of, turns_of, got_of, point_of, magnitude_of, number_of};
 
 // Digits read so far: their value, and the position after them.
-#[derive(Drop)]
+#[derive(Clone, Copy)]
 pub(crate) struct Run {
     pub(crate) value: u64,
     pub(crate) next: usize,
 }
 
 // What stands at a position: a number and the position after it, or no number.
-#[derive(Drop)]
+#[derive(Clone, Copy)]
 pub(crate) enum Reading {
     Got(i64, usize),
     Bad,

@@ -9,14 +9,14 @@ use consts::{ACCEPTED, BAD_BOX, BAD_TEXT};
 
 // What reading gives: 0 and the box, or a refusal and four zeros.
 #[repr(C)]
-#[derive(Drop)]
+#[derive(Clone, Copy)]
 pub struct Answer {
     pub refusal: u8,
     pub value: Bounds,
 }
 
 // The four numbers of an array, or a text that is none.
-#[derive(Drop)]
+#[derive(Clone, Copy)]
 pub(crate) enum Four {
     Numbers(Bounds),
     Not,

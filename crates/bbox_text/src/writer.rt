@@ -10,7 +10,7 @@ use consts::BAD_BOX;
 use text::{Written, write_text};
 
 // A text that is being made: the first n bytes of bytes.
-#[derive(Drop)]
+#[derive(Clone, Copy)]
 pub(crate) struct Text {
     pub(crate) bytes: [u8; 64],
     pub(crate) n: usize,

@@ -1,5 +1,7 @@
 // Doubles from bit patterns and back, for every pattern and every double. A value does not say which
 // NaN it is: so every NaN's pattern is read as the one NaN, and that one is always written alike.
+#![tactic(auto)]
+
 ghost use Rattle.std.specs.Prelude.{◌≡◌};
 ghost use Rattle.bits.specs.Pattern.{of_pattern, to_pattern};
 

@@ -13,7 +13,7 @@ const SOUTHMOST: i64 = -900000000;
 
 // West, south, east, north.
 #[repr(C)]
-#[derive(Drop)]
+#[derive(Clone, Copy)]
 pub struct Bounds {
     pub west: i64,
     pub south: i64,

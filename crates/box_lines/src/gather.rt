@@ -19,7 +19,7 @@ const GLOBE: Bounds = Bounds {
 
 // What was gathered: no line at all; or how many boxes; or the first fault and the line that it stands
 // on, counted from 1; or more lines than are taken.
-#[derive(Drop)]
+#[derive(Clone, Copy)]
 pub(crate) enum Gathered {
     NoLine,
     Boxes(usize),

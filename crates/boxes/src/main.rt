@@ -1,6 +1,8 @@
 // The program `boxes`: GeoJSON bbox arrays on standard input, one a line, and the common region of all of
 // them on standard output, as bbox arrays, one a line. What the lines mean and what text goes out is the
 // library's (the crate `box_lines`).
+#![tactic(auto)]
+
 use consts::{BAD_LIST, BAD_RECORD};
 use libc::{STDERR_FILENO, STDOUT_FILENO};
 use text::Written;

@@ -1,6 +1,8 @@
 // The program `boxes_cases`: kinds of input that the stored run of `boxes` leaves out, each fed to the same
 // library function; a label and the answer for each. The cases stand in `stdin` as the crate `cases` reads
 // them. They and the expected answers come from the reference in `oracle/` (`oracle/cases boxes`).
+#![tactic(auto)]
+
 ghost use Rattle.std.specs.Prelude.{◌≤◌, ◌<◌, length};
 
 use libc::STDOUT_FILENO;

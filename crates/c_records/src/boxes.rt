@@ -12,7 +12,7 @@ use s2::rect::{Answer, Rect};
 // The refusal number alone: the worker's answer lies in the box. In a record, as every answer of the
 // library is.
 #[repr(C)]
-#[derive(Drop)]
+#[derive(Clone, Copy)]
 pub struct CRefusal {
     pub refusal: u8,
 }

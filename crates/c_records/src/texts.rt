@@ -10,7 +10,7 @@ const ROOM: usize = 52;
 
 // A text and its length; every byte after it is zero.
 #[repr(C)]
-#[derive(Drop)]
+#[derive(Clone, Copy)]
 pub struct CText {
     pub refusal: u8,
     pub length: usize,

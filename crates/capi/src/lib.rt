@@ -11,6 +11,8 @@
 //
 // Caller's memory is written in `lent` alone: the common region's output and the scan worker's box, and
 // neither on a refusal. A text that is written comes by value, as every answer does.
+#![tactic(auto)]
+
 mod circle;
 mod geojson;
 mod lent;

@@ -179,7 +179,7 @@ pub extern "C" fn sjurnabel_line_clamp_point(a: Interval, p: f64) -> Number
 // A distance that may be without bound: the value is infinity then. C has no enum that holds a number, so
 // this record is C's own.
 #[repr(C)]
-#[derive(Drop)]
+#[derive(Clone, Copy)]
 pub struct CDistance {
     pub refusal: u8,
     pub unbounded: bool,

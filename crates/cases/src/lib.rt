@@ -4,6 +4,8 @@
 // label has, in two digits, how many bytes come after the line, in six, and the label:
 //
 //     s 06 000035 tail 1
+#![tactic(auto)]
+
 ghost use Rattle.std.specs.Prelude.{◌≡◌, ◌+◌, ◌≤◌, length};
 ghost use Rattle.cases.specs.Cases.{digit, two, six, no_case, first_case, Lies};
 
@@ -12,7 +14,7 @@ const LABEL: usize = 12;
 
 // A case's sort, and where in the bytes its parts lie: the label from `label` up to `line`, its bytes from
 // `bytes` up to `end`. Where no whole case is there the sort is 0, and all else is the end.
-#[derive(Drop)]
+#[derive(Clone, Copy)]
 pub struct Case {
     pub sort: u8,
     pub label: usize,

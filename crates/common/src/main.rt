@@ -1,5 +1,7 @@
 // The program `common`: a stream of records on standard input, the common region of its rectangles on
 // standard output. What the bytes mean and what text goes out is the library's (the crate `stream`).
+#![tactic(auto)]
+
 use consts::BAD_RECORD;
 use libc::{STDERR_FILENO, STDOUT_FILENO};
 use text::Written;

@@ -2,6 +2,8 @@
 // the same library function, and records fed to the function that reads one; a label and the answer for
 // each. The cases stand in `stdin` as the crate `cases` reads them. They and the expected answers come from
 // the reference in `oracle/` (`oracle/cases`).
+#![tactic(auto)]
+
 mod answers;
 
 ghost use Rattle.std.specs.Prelude.{◌≤◌, ◌<◌, length};

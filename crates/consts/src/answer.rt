@@ -30,7 +30,7 @@ pub const BAD_BOX: u8 = 9;
 
 // A test's answer. A refused test says no.
 #[repr(C)]
-#[derive(Drop)]
+#[derive(Clone, Copy)]
 pub struct YesNo {
     pub refusal: u8,
     pub value: bool,
@@ -75,7 +75,7 @@ impl YesNo {
 
 // A number as an answer. A refused one is zero.
 #[repr(C)]
-#[derive(Drop)]
+#[derive(Clone, Copy)]
 pub struct Number {
     pub refusal: u8,
     pub value: f64,

@@ -1,6 +1,8 @@
 // The constants and the remainder of `src/consts.rs`, and beside them what every layer of the port
 // reads its operands by and answers with: the refusal numbers, "in reach", and the reading
 // of negative zero as zero.
+#![tactic(auto)]
+
 mod answer;
 mod consts;
 mod reading;

@@ -1,5 +1,7 @@
 // From degrees to radians: a GeoJSON box, held in whole ten-millionths of a degree (crate `bounds`), as
 // a rectangle in radians (crate `s2`).
+#![tactic(auto)]
+
 mod angle;
 mod rect;
 

@@ -7,7 +7,7 @@ ghost use Rattle.entries.specs.Lists.{whole_length};
 use consts::{BAD_CIRCLE, BAD_LATITUDE, HALF_EMPTY, OUT_OF_REACH};
 
 // The first refusal of a list, and the entry that it stands at, counted from zero: 0 beside 0.
-#[derive(Drop)]
+#[derive(Clone, Copy)]
 pub struct First {
     pub refusal: u8,
     pub entry: usize,

@@ -11,7 +11,7 @@ use s2::rect::Rect;
 use s2::zone;
 
 // How many of the calls were refused, and the box after all of them.
-#[derive(Drop)]
+#[derive(Clone, Copy)]
 pub(crate) struct Called {
     pub(crate) refused: usize,
     pub(crate) value: Rect,

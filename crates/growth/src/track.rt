@@ -11,7 +11,7 @@ use s2::rect::Rect;
 // How many calls were accepted, and the box after all of them. A refusal is of the list's length or of the
 // start; no call was made then.
 #[repr(C)]
-#[derive(Drop)]
+#[derive(Clone, Copy)]
 pub struct RunningAnswer {
     pub refusal: u8,
     pub accepted: usize,

@@ -1,11 +1,13 @@
 // Standard input as a whole, into a lent buffer: for the programs that answer only once their input has
 // ended.
+#![tactic(auto)]
+
 ghost use Rattle.io.specs.Counts.{IsPrefixLen};
 
 use libc::STDIN_FILENO;
 
 // How many bytes of the input were read, and whether a read failed before its end.
-#[derive(Drop)]
+#[derive(Clone, Copy)]
 pub struct Input {
     pub count: usize,
     pub failed: bool,

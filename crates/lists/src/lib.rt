@@ -2,6 +2,8 @@
 // that starts at a number, the numbers of a rectangle put back, and the first refusal of a list with the
 // entry that it stands at. What they share with lists of other records is in the crate `entries`. Every
 // function is total: past the end of a list there is no number (NaN), which every reading refuses.
+#![tactic(auto)]
+
 mod points;
 mod rects;
 

@@ -9,7 +9,7 @@ use native.Mathlib.Omega.{arith}
 use lib.Pow.{pow_pos}
 use lib.Dec.{T, ltb}
 use lib.IntN.{ℤ}
-use lib.Ieee.{Float, nan, inf, fin, Format, binary32, binary64, prec, low, unlike, up, down, fits, is_nan, odd, units, round, sum, neg, add, mul, lt, le, eq}
+use lib.Ieee.{Float, nan, inf, fin, Format, binary32, binary64, prec, emax, low, unlike, up, down, fits, is_nan, odd, units, round, sum, neg, add, mul, lt, le, eq}
 use lib.Ieee.Bits.{is_true}
 use lib.Ieee.Fits.{down_pos, round_is, round-fits, and_l, and_r}
 use lib.Ieee.Order.{round_mono}
@@ -27,10 +27,10 @@ odd-turned d (suc q) k l = refl
 
 units-turned : (f : Format) (q k : ℕ) → units f true q k ≡ neg (units f false q k)
 unfolding units
-units-turned f q k = go (ltb (q * 2 ^ k) _)
+units-turned f q k = go (ltb (q * 2 ^ k) (2 ^ (low f + suc (emax f))))
   where
     go : (t : Bool) → cond t (odd (suc (prec f)) true q k (low f)) (inf true) ≡ neg (cond t (odd (suc (prec f)) false q k (low f)) (inf false))
-    go true = odd-turned _ q k (low f)
+    go true = odd-turned (suc (prec f)) q k (low f)
     go false = unfold neg in refl
 
 -- a NaN is not at most itself

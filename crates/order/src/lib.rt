@@ -1,5 +1,7 @@
 // The order of doubles: what every layer's proofs say about `<`, `<=` and `==` (specs/Key.antt,
 // proofs/Ranks.antt), and the three choices between doubles that the crate takes from Rust's std.
+#![tactic(auto)]
+
 ghost use Rattle.std.specs.Prelude.{◌≡◌};
 ghost use Rattle.order.specs.Choice.{min, max, abs};
 

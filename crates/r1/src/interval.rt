@@ -27,7 +27,7 @@ use consts::{ACCEPTED, BAD_MARGIN, BAD_POINT, EPSILON, Number, YesNo};
 // Interval represents a closed interval on the real line. Zero-length intervals (where lo == hi)
 // represent single points. If lo > hi then the interval is empty.
 #[repr(C)]
-#[derive(Drop)]
+#[derive(Clone, Copy)]
 pub struct Interval {
     // lower bound of the interval
     pub lo: f64,
@@ -37,21 +37,21 @@ pub struct Interval {
 
 // An interval as an answer. A refused one is the standard empty, or what growth was handed.
 #[repr(C)]
-#[derive(Drop)]
+#[derive(Clone, Copy)]
 pub struct Answer {
     pub refusal: u8,
     pub value: Interval,
 }
 
 // The directed Hausdorff distance: a number, or Unbounded where the crate has infinity.
-#[derive(Drop)]
+#[derive(Clone, Copy)]
 pub enum Distance {
     Of(f64),
     Unbounded,
 }
 
 // A Hausdorff distance as an answer. A refused one is a distance of zero.
-#[derive(Drop)]
+#[derive(Clone, Copy)]
 pub struct Hausdorff {
     pub refusal: u8,
     pub value: Distance,

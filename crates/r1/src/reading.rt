@@ -7,14 +7,14 @@ use crate::interval::Interval;
 use consts::{ACCEPTED, OUT_OF_REACH};
 
 // An interval as it is read.
-#[derive(Drop)]
+#[derive(Clone, Copy)]
 pub struct One {
     pub refusal: u8,
     pub value: Interval,
 }
 
 // Two intervals as they are read.
-#[derive(Drop)]
+#[derive(Clone, Copy)]
 pub struct Two {
     pub refusal: u8,
     pub left: Interval,
@@ -22,7 +22,7 @@ pub struct Two {
 }
 
 // An interval and a number as they are read.
-#[derive(Drop)]
+#[derive(Clone, Copy)]
 pub struct With {
     pub refusal: u8,
     pub value: Interval,

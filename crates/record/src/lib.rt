@@ -1,5 +1,7 @@
 // One record of the stream of the program `common`: 34 bytes, a mark and the four numbers of a rectangle, and
 // what they are read as.
+#![tactic(auto)]
+
 mod record;
 
 pub use record::{Record, is_record, number_of, read_record};

@@ -15,7 +15,7 @@ use s2::rect::Rect;
 const SIZE: usize = 34;
 
 // A record as it is read: a rectangle that can be taken, with no negative zero, or why there is none.
-#[derive(Drop)]
+#[derive(Clone, Copy)]
 pub enum Record {
     Rectangle(Rect),
     Refused(u8),

@@ -11,7 +11,7 @@ use r1::line;
 
 // The first refusal of a list or, under 0, how many longitude pieces were found and the common latitude
 // band. None are found where the latitudes have nothing in common.
-#[derive(Drop)]
+#[derive(Clone, Copy)]
 pub(crate) struct Found {
     pub(crate) refusal: u8,
     pub(crate) count: usize,

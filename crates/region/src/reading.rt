@@ -17,7 +17,7 @@ use s2::rect::Rect;
 
 // The first refusal or, under 0, how many arcs cross the seam, the common band, and what the other arcs
 // have in common: nothing where it does not rise.
-#[derive(Drop)]
+#[derive(Clone, Copy)]
 pub(crate) struct Arcs {
     pub(crate) refusal: u8,
     pub(crate) count: usize,

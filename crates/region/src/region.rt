@@ -17,7 +17,7 @@ use r1::interval::Interval as Line;
 // How many pieces were listed; none under a refusal. Where a rectangle is refused, its entry is told,
 // counted from zero; beside any other number the entry is 0 and means nothing.
 #[repr(C)]
-#[derive(Drop)]
+#[derive(Clone, Copy)]
 pub struct Pieces {
     pub refusal: u8,
     pub count: usize,
@@ -25,7 +25,7 @@ pub struct Pieces {
 }
 
 // How many pieces were listed, or by which number the list is refused: before the entry is looked for.
-#[derive(Drop)]
+#[derive(Clone, Copy)]
 struct Listed {
     refusal: u8,
     count: usize,

@@ -123,20 +123,12 @@ union i o =
     (cond (is_empty i || fast_contains o i.lo) o
     (cond (Ieee.lt (positive_distance o.hi i.lo) (positive_distance i.hi o.lo)) (ends o.lo i.hi) (ends i.lo o.hi)))))
 
--- o goes before i: it is the shorter by `len`, or as long and its lo is the smaller
-unfoldable pub shorter : Interval → Interval → Bool
-shorter o i = Ieee.lt (len o) (len i) || (Ieee.eq (len o) (len i) && Ieee.lt o.lo i.lo)
-
--- of two, where both ends of o lie in i: the one that lies within the other; if neither does, the shorter
-unfoldable pub narrower : Interval → Interval → Interval
-narrower i o = cond (contains_interval i o) o (cond (contains_interval o i) i (cond (shorter o i) o i))
-
--- an interval that holds all that is common, by the pairwise choices in the printed order but where both ends of o lie in i: document 02, T-05
+-- an interval that holds all that is common, by the pairwise choices in the printed order; where they meet at both ends, the operand of the smaller rounded length
 unfoldable pub intersection : Interval → Interval → Interval
 intersection i o =
     cond (is_empty o) EMPTY
     (cond (fast_contains i o.lo)
-    (cond (fast_contains i o.hi) (narrower i o) (ends o.lo i.hi))
+    (cond (fast_contains i o.hi) (cond (Ieee.lt (len o) (len i)) o i) (ends o.lo i.hi))
     (cond (fast_contains i o.hi) (ends i.lo o.hi)
     (cond (fast_contains o i.lo) i EMPTY)))
 

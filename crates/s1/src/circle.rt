@@ -18,7 +18,7 @@
 // `f64::max` and `abs` written out and radians for `Angle`.
 ghost use Rattle.std.specs.Prelude.{◌≡◌, cond};
 ghost use Rattle.s1.specs.Circle.{is_valid, is_full, is_empty, is_inverted, is_point, fast_contains, contains, contains_interval, interior_contains, interior_contains_interval, intersects, inside_meets, interior_intersects, near_ends, approx_eq_by, eq};
-ghost use Rattle.s1.specs.Circle.{positive_distance, «new», seam, from_point_pair, invert, center, len, union, narrower, intersection, moved, expanded, complement, complement_center, distance_if_held, directed_hausdorff_distance, add};
+ghost use Rattle.s1.specs.Circle.{positive_distance, «new», seam, from_point_pair, invert, center, len, union, intersection, moved, expanded, complement, complement_center, distance_if_held, directed_hausdorff_distance, add};
 
 use crate::interval::Interval;
 use consts::{DBL_EPSILON, NEG_PI, PI, TURN};
@@ -285,30 +285,6 @@ pub fn union(i: Interval, other: Interval) -> Interval
     }
 }
 
-// Of two intervals, where both ends of other lie in i: the one that lies within the other. If neither
-// does, they meet at both ends, and it is the shorter by `len`, at equal `len` the one with the smaller
-// lo. The crate takes the shorter at once; but two lengths may round to one number, and then it takes the
-// first, though the second lies within it: its answer depends on the order. Here it does not, and it is
-// larger than what is common only where that is two pieces (document 02, T-05).
-fn narrower(i: Interval, other: Interval) -> Interval
-    ensures { result ≡ narrower i other }
-{
-    let length = len(i);
-    let other_length = len(other);
-    let inside = contains_interval(i, other);
-    let around = contains_interval(other, i);
-    if inside {
-        return other;
-    }
-    if around {
-        return i;
-    }
-    if (other_length < length) | ((other_length == length) & (other.lo < i.lo)) {
-        return other;
-    }
-    i
-}
-
 // Does the work of Interval::intersection on operands that have been read.
 pub fn intersection(i: Interval, other: Interval) -> Interval
     ensures { result ≡ intersection i other }
@@ -318,8 +294,13 @@ pub fn intersection(i: Interval, other: Interval) -> Interval
     }
     if fast_contains(i, other.lo) {
         if fast_contains(i, other.hi) {
-            // Either one of them lies within the other, or they intersect twice. Neither is empty.
-            return narrower(i, other);
+            // Either other ⊂ i, or i and other intersect twice. Neither are empty. In the second case
+            // one of them is inverted, and the one that is shorter, by the rounded length, covers the
+            // two disjoint pieces.
+            if len(other) < len(i) {
+                return other;
+            }
+            return i;
         }
         return Interval {
             lo: other.lo,

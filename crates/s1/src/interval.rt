@@ -35,7 +35,7 @@ use r1::interval::{Answer as LineAnswer, Interval as Line};
 //   - the full interval, [-π,π], and
 //   - the empty interval, [π,-π].
 #[repr(C)]
-#[derive(Drop)]
+#[derive(Clone, Copy)]
 pub struct Interval {
     pub lo: f64,
     pub hi: f64,
@@ -43,7 +43,7 @@ pub struct Interval {
 
 // An interval as an answer. A refused one is the empty interval, or what growth was handed.
 #[repr(C)]
-#[derive(Drop)]
+#[derive(Clone, Copy)]
 pub struct Answer {
     pub refusal: u8,
     pub value: Interval,

@@ -9,14 +9,14 @@ use crate::interval::Interval;
 use consts::{ACCEPTED, BAD_CIRCLE, BAD_MARGIN, BAD_POINT, NEG_PI, Number, OUT_OF_REACH, PI};
 
 // An interval as it is read.
-#[derive(Drop)]
+#[derive(Clone, Copy)]
 pub struct One {
     pub refusal: u8,
     pub value: Interval,
 }
 
 // Two intervals as they are read.
-#[derive(Drop)]
+#[derive(Clone, Copy)]
 pub struct Two {
     pub refusal: u8,
     pub left: Interval,
@@ -24,7 +24,7 @@ pub struct Two {
 }
 
 // An interval and a number as they are read.
-#[derive(Drop)]
+#[derive(Clone, Copy)]
 pub struct With {
     pub refusal: u8,
     pub value: Interval,

@@ -15,7 +15,7 @@ pub const NORTH_POLE_LAT: f64 = 1.5707963267948966;
 pub const SOUTH_POLE_LAT: f64 = -NORTH_POLE_LAT;
 
 #[repr(C)]
-#[derive(Drop)]
+#[derive(Clone, Copy)]
 pub struct LatLng {
     pub lat: f64,
     pub lng: f64,

@@ -2,7 +2,7 @@
 // or the gap between two neighbouring doubles. specs/Places.antt says which records are places.
 
 #[repr(C)]
-#[derive(Drop)]
+#[derive(Clone, Copy)]
 pub struct Place {
     // The latitude, from pole to pole.
     pub lat: f64,

@@ -14,14 +14,14 @@ use s1::circle;
 use s1::interval::Interval as Circle;
 
 // A rectangle as it is read.
-#[derive(Drop)]
+#[derive(Clone, Copy)]
 pub struct One {
     pub refusal: u8,
     pub value: Rect,
 }
 
 // Two rectangles as they are read.
-#[derive(Drop)]
+#[derive(Clone, Copy)]
 pub struct Two {
     pub refusal: u8,
     pub left: Rect,
@@ -29,14 +29,14 @@ pub struct Two {
 }
 
 // A point, or two margins, as they are read.
-#[derive(Drop)]
+#[derive(Clone, Copy)]
 pub struct Pair {
     pub refusal: u8,
     pub value: LatLng,
 }
 
 // A rectangle and a point or two margins, as they are read.
-#[derive(Drop)]
+#[derive(Clone, Copy)]
 pub struct With {
     pub refusal: u8,
     pub value: Rect,

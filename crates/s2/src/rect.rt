@@ -27,7 +27,7 @@ pub const VALID_RECT_LAT_RANGE: Line = Line {
 // longitudes of a closed interval of the circle. At a pole each longitude is a place by itself, so a
 // rectangle may hold some of them and not others: polar_closure takes them all.
 #[repr(C)]
-#[derive(Drop)]
+#[derive(Clone, Copy)]
 pub struct Rect {
     pub lat: Line,
     pub lng: Circle,
@@ -35,7 +35,7 @@ pub struct Rect {
 
 // A rectangle as an answer. A refused one is the standard empty, or what growth was handed.
 #[repr(C)]
-#[derive(Drop)]
+#[derive(Clone, Copy)]
 pub struct Answer {
     pub refusal: u8,
     pub value: Rect,
@@ -43,7 +43,7 @@ pub struct Answer {
 
 // A point, or a size, as an answer. A refused one is two zeros.
 #[repr(C)]
-#[derive(Drop)]
+#[derive(Clone, Copy)]
 pub struct PointAnswer {
     pub refusal: u8,
     pub value: LatLng,

@@ -9,7 +9,7 @@ use lists::put_rect;
 use record::{Record, is_record, number_of, read_record};
 
 // What was gathered: how many rectangles; under a refusal, how many stand before the fault.
-#[derive(Drop)]
+#[derive(Clone, Copy)]
 pub(crate) struct Gathered {
     pub(crate) refusal: u8,
     pub(crate) count: usize,

@@ -1,5 +1,7 @@
 // The texts that the programs `common` and `boxes` write: the pieces of a common region, a refusal, a
 // refusal with the entry or the line that has the fault, or any text, as bytes in a lent slice.
+#![tactic(auto)]
+
 mod text;
 
 pub use text::{

@@ -13,7 +13,7 @@ use bits::pattern;
 use consts::{ACCEPTED, BAD_LIST, NO_ROOM};
 
 // What was written: how many bytes stand at the start of the output; none under a refusal.
-#[derive(Drop)]
+#[derive(Clone, Copy)]
 pub struct Written {
     pub refusal: u8,
     pub count: usize,

@@ -78,7 +78,7 @@ module _ {A X : Type 0} (lt le eq : A → A → Bool) (NEG PI : A) (near : Bool)
     overlap_g =
         cond (empty_g lt le eq NEG PI c d) (k PI NEG)
         (cond (fast_g lt le eq NEG PI a b c)
-        (cond (fast_g lt le eq NEG PI a b d) (cond (covers_g lt le eq NEG PI a b c d) (k c d) (cond (covers_g lt le eq NEG PI c d a b) (k a b) (cond near (k c d) (k a b)))) (k c b))
+        (cond (fast_g lt le eq NEG PI a b d) (cond near (k c d) (k a b)) (k c b))
         (cond (fast_g lt le eq NEG PI a b d) (k a d)
         (cond (fast_g lt le eq NEG PI c d a) (k a b) (k PI NEG))))
 

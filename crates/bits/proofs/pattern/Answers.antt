@@ -5,8 +5,7 @@ use lib.Dec.{T}
 use lib.Ieee.{Float, nan, inf, fin, is_nan, ne}
 use lib.Ieee.Compare.{differs_from_itself, nan_differs}
 use Rattle.bits.specs.Pattern.{to_pattern}
-use Rattle.bits.proofs.pattern.Statement.{statement}
-use Rattle.bits.proofs.pattern.Tie as tie
+use Rattle.bits.proofs.pattern.Goals as goal
 
 unlike-itself : (x : Float) → ne x x ≡ true → is_nan x ≡ true
 unfolding is_nan
@@ -18,16 +17,13 @@ like-itself nan h = sym nan_differs ∙ h
 like-itself (inf s) h = refl
 like-itself (fin s m e) h = refl
 
-returns : tie.Need-returns
+pub returns-then-x : goal.returns-then-x
 unfolding to_pattern
-returns c = simp (unlike-itself _ c.if1.true)
+returns-then-x c = simp (unlike-itself _ c.if-x.true)
 
-float-to-bits-result : tie.Need-float-to-bits-result
-float-to-bits-result c = simp (like-itself _ c.if1.false) tt
+pub float_to_bits-result : goal.float_to_bits-result
+float_to_bits-result c = simp (like-itself _ c.if-x.false) tt
 
-returns-2 : tie.Need-returns-2
+pub returns : goal.returns
 unfolding to_pattern
-returns-2 c = simp (like-itself _ c.if1.false)
-
-pub pattern-spec : {M : Type 1} → statement M
-pattern-spec = tie.close (tie.spec returns float-to-bits-result returns-2)
+returns c = simp (like-itself _ c.if-x.false)

@@ -2,8 +2,7 @@
 use mathlib.Core.Path.{◌≡◌, refl}
 use mathlib.Core.Bool.{Bool, true, false, cond}
 use Rattle.consts.specs.Refusal.{number, accepted, bad_latitude, bad_circle, half_empty, first_fault, first_refusal}
-use Rattle.consts.proofs.answer.first_fault.Statement.{statement}
-use Rattle.consts.proofs.answer.first_fault.Tie as tie
+use Rattle.consts.proofs.answer.first_fault.Goals as goal
 
 in-turn : (a b c : Bool)
     → first_refusal (cond a (number accepted) (number bad_latitude)) (first_refusal (cond b (number accepted) (number bad_circle)) (cond c (number accepted) (number half_empty)))
@@ -13,14 +12,8 @@ in-turn false b c = refl
 in-turn true false c = refl
 in-turn true true c = refl
 
-returns : tie.Need-returns
+pub returns : goal.returns
 returns c =
-    let at-half = c.before.before in
-    let at-wrong = at-half.before in
-    let at-over = at-wrong.before in
-    let x = at-over.before.args in
-    simp (c.first-refusal2.ensures, c.before.first-refusal.ensures, at-half.unless3.ensures, at-wrong.unless2.ensures, at-over.unless.ensures)
+    let x = c.args in
+    simp (c.first_refusal-2.ensures, c.first_refusal.ensures, c.unless-half.ensures, c.unless-wrong.ensures, c.unless-over.ensures)
     (in-turn x.latitudes x.circle x.parts)
-
-pub first-fault-spec : {M : Type 1} → statement M
-first-fault-spec = tie.close (tie.spec (λ c κs. tt) (λ c κs. tt) (λ c κs. tt) (λ c κs. tt) (λ c κs. tt) returns)
