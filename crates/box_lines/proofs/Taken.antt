@@ -19,7 +19,7 @@ use Rattle.entries.specs.Lists.{All, whole, whole_length}
 use Rattle.lists.specs.Rects.{rects_of, as_read_all}
 use Rattle.entries.specs.First.{first_number}
 use Rattle.lists.specs.Refused.{of_rect, first_refused}
-use Rattle.entries.proofs.First.{passed}
+use Rattle.entries.proofs.FirstLaws.{passed}
 use Rattle.bounds.specs.declared.bounds.Bounds.{Bounds}
 use Rattle.degrees.specs.Degrees.{rect_of, to_rect}
 use Rattle.degrees.proofs.Boxes.{accepted-is, is-valid, read_back}

@@ -1,5 +1,5 @@
 pub mod Entries
 pub mod Lengths
-pub mod First
+pub mod FirstLaws
 pub mod Inputs
 pub mod Written

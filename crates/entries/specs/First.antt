@@ -1,5 +1,5 @@
 -- The first refusal of a list of entries of any kind, from the first entry on, and the entry that it stands at. Definitions only; what they mean is in
--- proofs/First.antt.
+-- proofs/FirstLaws.antt.
 use Rattle.std.specs.Prelude.{List, [], ◌∷◌, ℕ, suc}
 use Rattle.consts.specs.Refusal.{number, accepted, first_refusal, given}
 use Rattle.entries.specs.declared.records.First.{First}

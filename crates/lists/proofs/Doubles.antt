@@ -27,7 +27,7 @@ use Rattle.lists.specs.Rects.{rects_of}
 use Rattle.lists.specs.Points.{points_of}
 use Rattle.entries.specs.First.{first_number}
 use Rattle.lists.specs.Refused.{of_rect, of_point, first_refused, first_bad}
-use Rattle.entries.proofs.First.{Good, none-when}
+use Rattle.entries.proofs.FirstLaws.{Good, none-when}
 
 -- ---- a rectangle
 pub valid-of : (r : Rect) → Doubles r → rect_in_reach r ≡ true → is_valid r ≡ true → Valid r

@@ -30,7 +30,7 @@ use Rattle.entries.specs.Inputs.{Form, Items, Fault, input_of}
 use Rattle.entries.proofs.Lengths.{not-whole-when}
 use Rattle.lists.proofs.RectLists as rects
 use Rattle.lists.proofs.PointLists as points
-use Rattle.entries.proofs.First.{IsFirst, none_told, none-when, first-told, first-when}
+use Rattle.entries.proofs.FirstLaws.{IsFirst, none_told, none-when, first-told, first-when}
 use Rattle.lists.proofs.Doubles.{rects-accepted, points-accepted}
 use Rattle.entries.proofs.Inputs as inputs
 

@@ -15,7 +15,7 @@ use Rattle.lists.specs.Rects.{rects_of}
 use Rattle.entries.specs.declared.records.First.{First}
 use Rattle.entries.specs.Lists.{whole}
 use Rattle.entries.specs.First.{first_of}
-use Rattle.entries.proofs.First.{none_told, none-when}
+use Rattle.entries.proofs.FirstLaws.{none_told, none-when}
 use Rattle.lists.specs.Refused.{of_rect, first_refused}
 use Rattle.entries.proofs.Lengths as lengths
 use Rattle.lists.proofs.Doubles.{all_valid}

@@ -27,7 +27,7 @@ use Rattle.entries.specs.Lists.{All, Mem, first, later, whole}
 use Rattle.lists.specs.Rects.{rects_of, as_read_all}
 use Rattle.entries.specs.First.{first_number}
 use Rattle.lists.specs.Refused.{of_rect, first_refused}
-use Rattle.entries.proofs.First.{passed}
+use Rattle.entries.proofs.FirstLaws.{passed}
 use Rattle.arcs.specs.Clipping.{common}
 use Rattle.arcs.proofs.Tests.{both_ways}
 use Rattle.arcs.proofs.Laws as arcs

@@ -18,7 +18,7 @@ use Rattle.s2.proofs.Refusals.{accepted-when, number-when, reason-number, never}
 use Rattle.entries.specs.declared.records.First.{First}
 use Rattle.entries.specs.Lists.{All, whole}
 use Rattle.entries.specs.First.{first_number, first_entry, first_of}
-use Rattle.entries.proofs.First.{Good, IsFirst, none_told, first-told, decided}
+use Rattle.entries.proofs.FirstLaws.{Good, IsFirst, none_told, first-told, decided}
 use Rattle.lists.specs.Rects.{rects_of}
 use Rattle.lists.specs.Refused.{of_rect}
 use Rattle.region.specs.Answers.{pieces_of, refusal_of, entry_of}

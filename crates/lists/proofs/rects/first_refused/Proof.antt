@@ -13,7 +13,7 @@ use Rattle.entries.specs.Lists.{All}
 use Rattle.lists.specs.Rects.{rects_of, rect_at}
 use Rattle.lists.specs.Refused.{of_rect}
 use Rattle.lists.proofs.RectLists.{length-rects, rect-entry}
-use Rattle.entries.proofs.First.{Good, one-passed, all-passed, one-stopped}
+use Rattle.entries.proofs.FirstLaws.{Good, one-passed, all-passed, one-stopped}
 use borrow.Author.Rules.{rules}
 use Rattle.lists.proofs.rects.first_refused.Statement.{statement}
 use Rattle.lists.proofs.rects.first_refused.Tie as tie

@@ -1,0 +1,12 @@
+-- `s1::circle::fast_contains`: at each return the answer is the definition's, under the tests that led there. Assumes nothing.
+use Rattle.s1.specs.Circle.{fast_contains}
+use borrow.Author.Rules.{rules}
+use Rattle.s1.proofs.circle.fast_contains.Goals as goal
+
+pub returns-then-is_inverted : goal.returns-then-is_inverted
+unfolding fast_contains
+returns-then-is_inverted c = simp (← c.is_empty.ensures, c.if-is_inverted.true, ← c.is_inverted.ensures)
+
+pub returns-else-is_inverted : goal.returns-else-is_inverted
+unfolding fast_contains
+returns-else-is_inverted c = simp (c.if-is_inverted.false, ← c.is_inverted.ensures)

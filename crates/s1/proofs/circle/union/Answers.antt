@@ -1,0 +1,69 @@
+-- `s1::circle::union`: at each return the answer is the definition's, under the tests that led there. Each test is read once, at the place where it has
+use mathlib.Core.Path.{◌≡◌, sym, ◌∙◌}
+use mathlib.Core.Bool.{true, false, cond}
+use lib.Ieee as Ieee
+use Rattle.s1.specs.Circle.{ends, is_empty, fast_contains, positive_distance, union}
+use borrow.Author.Rules.{rules}
+use Rattle.s1.proofs.circle.union.Goals as goal
+
+-- ---- other is empty; its western end lies in i
+pub returns-then-is_empty : goal.returns-then-is_empty
+unfolding union
+returns-then-is_empty c = simp (c.if-is_empty.true, ← c.is_empty.ensures)
+
+pub returns-then-contains_interval : goal.returns-then-contains_interval
+unfolding union
+returns-then-contains_interval c =
+    let hi-in : let a = c.args in fast_contains a.i a.other.hi ≡ true = sym c.fast_contains-then-fast_contains.ensures ∙ c.if-fast_contains-2.true in
+    let lo-in : let a = c.args in fast_contains a.i a.other.lo ≡ true = sym c.fast_contains.ensures ∙ c.if-fast_contains.true in
+    let some : is_empty c.args.other ≡ false = sym c.is_empty.ensures ∙ c.if-is_empty.false in
+    simp (c.if-contains_interval.true, ← c.contains_interval.ensures, hi-in, lo-in, some)
+
+pub returns-then-fast_contains-2 : goal.returns-then-fast_contains-2
+unfolding union
+returns-then-fast_contains-2 c =
+    let hi-in : let a = c.args in fast_contains a.i a.other.hi ≡ true = sym c.fast_contains-then-fast_contains.ensures ∙ c.if-fast_contains-2.true in
+    let lo-in : let a = c.args in fast_contains a.i a.other.lo ≡ true = sym c.fast_contains.ensures ∙ c.if-fast_contains.true in
+    let some : is_empty c.args.other ≡ false = sym c.is_empty.ensures ∙ c.if-is_empty.false in
+    simp (c.if-contains_interval.false, ← c.contains_interval.ensures, hi-in, lo-in, some)
+
+pub returns-then-fast_contains : goal.returns-then-fast_contains
+unfolding union
+returns-then-fast_contains c =
+    let lo-in : let a = c.args in fast_contains a.i a.other.lo ≡ true = sym c.fast_contains.ensures ∙ c.if-fast_contains.true in
+    let some : is_empty c.args.other ≡ false = sym c.is_empty.ensures ∙ c.if-is_empty.false in
+    simp (c.if-fast_contains-2.false, ← c.fast_contains-then-fast_contains.ensures, lo-in, some)
+
+-- ---- it lies out of i
+pub returns-then-fast_contains-3 : goal.returns-then-fast_contains-3
+unfolding union
+returns-then-fast_contains-3 c =
+    let lo-out : let a = c.args in fast_contains a.i a.other.lo ≡ false = sym c.fast_contains.ensures ∙ c.if-fast_contains.false in
+    let some : is_empty c.args.other ≡ false = sym c.is_empty.ensures ∙ c.if-is_empty.false in
+    simp (c.if-fast_contains-3.true, ← c.fast_contains-2.ensures, lo-out, some)
+
+pub returns-then-is_empty-fast_contains : goal.returns-then-is_empty-fast_contains
+unfolding union
+returns-then-is_empty-fast_contains c =
+    let hi-out : let a = c.args in fast_contains a.i a.other.hi ≡ false = sym c.fast_contains-2.ensures ∙ c.if-fast_contains-3.false in
+    let lo-out : let a = c.args in fast_contains a.i a.other.lo ≡ false = sym c.fast_contains.ensures ∙ c.if-fast_contains.false in
+    let some : is_empty c.args.other ≡ false = sym c.is_empty.ensures ∙ c.if-is_empty.false in
+    simp (c.if-is_empty-fast_contains.true, ← c.fast_contains-3.ensures, ← c.is_empty-2.ensures, hi-out, lo-out, some)
+
+pub returns-then-positive_distance : goal.returns-then-positive_distance
+unfolding union
+returns-then-positive_distance c =
+    let hi-out : let a = c.args in fast_contains a.i a.other.hi ≡ false = sym c.fast_contains-2.ensures ∙ c.if-fast_contains-3.false in
+    let lo-out : let a = c.args in fast_contains a.i a.other.lo ≡ false = sym c.fast_contains.ensures ∙ c.if-fast_contains.false in
+    let some : is_empty c.args.other ≡ false = sym c.is_empty.ensures ∙ c.if-is_empty.false in
+    let gaps : let a = c.args in union a.i a.other ≡ cond (Ieee.lt (positive_distance a.other.hi a.i.lo) (positive_distance a.i.hi a.other.lo)) (ends a.other.lo a.i.hi) (ends a.i.lo a.other.hi) = simp (c.if-is_empty-fast_contains.false, ← c.fast_contains-3.ensures, ← c.is_empty-2.ensures, hi-out, lo-out, some) in
+    simp (gaps, c.if-positive_distance.true, ← c.positive_distance-2.ensures, ← c.positive_distance.ensures)
+
+pub returns : goal.returns
+unfolding union
+returns c =
+    let hi-out : let a = c.args in fast_contains a.i a.other.hi ≡ false = sym c.fast_contains-2.ensures ∙ c.if-fast_contains-3.false in
+    let lo-out : let a = c.args in fast_contains a.i a.other.lo ≡ false = sym c.fast_contains.ensures ∙ c.if-fast_contains.false in
+    let some : is_empty c.args.other ≡ false = sym c.is_empty.ensures ∙ c.if-is_empty.false in
+    let gaps : let a = c.args in union a.i a.other ≡ cond (Ieee.lt (positive_distance a.other.hi a.i.lo) (positive_distance a.i.hi a.other.lo)) (ends a.other.lo a.i.hi) (ends a.i.lo a.other.hi) = simp (c.if-is_empty-fast_contains.false, ← c.fast_contains-3.ensures, ← c.is_empty-2.ensures, hi-out, lo-out, some) in
+    simp (gaps, c.if-positive_distance.false, ← c.positive_distance-2.ensures, ← c.positive_distance.ensures)

@@ -1,0 +1,13 @@
+-- `s1::interval::Interval::invert`: at each return the answer is the definition's, under the tests that led there. Assumes nothing.
+use Rattle.s1.specs.Answers.{invert}
+use borrow.Author.Tests.{eq-eqb, ne_eqb}
+use borrow.Author.Rules.{rules}
+use Rattle.s1.proofs.interval.Interval.invert.Goals as goal
+
+pub returns-then-x-eq-ACCEPTED : goal.returns-then-x-eq-ACCEPTED
+unfolding invert
+returns-then-x-eq-ACCEPTED c = simp (← c.accepted.ensures, ← c.invert.ensures, eq-eqb _ _ c.if-x-eq-ACCEPTED.true, ← c.read_one-x.ensures)
+
+pub returns : goal.returns
+unfolding invert
+returns c = simp (← c.refused.ensures, ne_eqb _ _ c.if-x-eq-ACCEPTED.false, ← c.read_one-x.ensures)

@@ -1,0 +1,13 @@
+-- `s1::interval::Interval::is_empty`: at each return the answer is the definition's, under the tests that led there. Assumes nothing.
+use Rattle.s1.specs.Answers.{is_empty}
+use borrow.Author.Tests.{eq-eqb, ne_eqb}
+use borrow.Author.Rules.{rules}
+use Rattle.s1.proofs.interval.Interval.is_empty.Goals as goal
+
+pub returns-then-x-eq-ACCEPTED : goal.returns-then-x-eq-ACCEPTED
+unfolding is_empty
+returns-then-x-eq-ACCEPTED c = simp (← c.accepted.ensures, ← c.is_empty.ensures, eq-eqb _ _ c.if-x-eq-ACCEPTED.true, ← c.read_one-x.ensures)
+
+pub returns : goal.returns
+unfolding is_empty
+returns c = simp (← c.refused.ensures, ne_eqb _ _ c.if-x-eq-ACCEPTED.false, ← c.read_one-x.ensures)

@@ -1,0 +1,14 @@
+-- `text::text::digit`: the test is the definition's. Assumes nothing.
+use native.Mathlib.Omega.{arith}
+use borrow.Author.Rules.{rules}
+use borrow.Author.Tests.{lt-ltb, le-ltb}
+use Rattle.text.specs.Text.{hex_digit}
+use Rattle.text.proofs.text.digit.Goals as goal
+
+pub returns-then-d-lt10 : goal.returns-then-d-lt10
+unfolding hex_digit
+returns-then-d-lt10 c = simp (lt-ltb _ _ c.if-d-lt10.true)
+
+pub returns : goal.returns
+unfolding hex_digit
+returns c = simp (le-ltb _ _ c.if-d-lt10.false) (omega arith)

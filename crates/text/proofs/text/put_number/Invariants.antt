@@ -1,0 +1,17 @@
+-- `text::text::put_number`: the k digits still to come, from the present place on into the present output, make the whole. The measure is k. Assumes
+use mathlib.Core.Path.{◌≡◌, refl, sym, ap, ◌∙◌}
+use Prim.Native.Nat.{ℕ, ◌+◌, ◌-◌, ◌≤◌}
+use native.Mathlib.Omega.{arith}
+use borrow.Author.Rules.{rules}
+use lib.ListN.{length, set, length-set}
+use Rattle.text.specs.Text.{hex, number_text}
+use Rattle.text.specs.Inside.{put}
+use Rattle.text.proofs.Puts.{put-none, put-digit, put-no-digit}
+use Rattle.text.proofs.text.put_number.Given as goal
+
+-- nothing.
+abbrev pub invariant-loop-k : goal.invariant-loop-k
+invariant-loop-k l = (put l.at (hex 16 l.w) l.initial.out ≡ put (l.at + (16 - l.k)) (hex l.k l.w) l.out) × (l.k ≤ 16) × (length l.out ≡ length l.initial.out)
+
+abbrev pub decreases-loop-k : goal.decreases-loop-k
+decreases-loop-k l = l.k
