@@ -81,6 +81,7 @@ rise-cut i (x ∷ l) r = go (holds i x.lo false) (rise-cut i l r.1)
 
 keep-cut : {x : Interval} (i : Interval) (l : List Interval) → Mem x l → holds i x.lo false ≡ true → Mem (ends x.lo (sooner x.lo x.hi i.hi)) (cut i l)
 unfolding cut
+keep-cut i [] m h = elim m [ ]
 keep-cut i (y ∷ l) m h = go m h (holds i y.lo false) refl (keep-cut i l)
   where
     go : {x : Interval} → Mem x (y ∷ l) → holds i x.lo false ≡ true → (t : Bool) → holds i y.lo false ≡ t
@@ -320,6 +321,7 @@ onto-old arcs (i ∷ l) m = onto-old (i ∷ arcs) l (later m)
 
 onto-new : {j : Interval} (arcs l : List Interval) → Mem j l → Mem j (onto arcs l)
 unfolding onto
+onto-new {j = j} arcs [] x = elim x [ ]
 onto-new arcs (i ∷ l) first = onto-old (i ∷ arcs) l first
 onto-new arcs (i ∷ l) (later m) = onto-new (i ∷ arcs) l m
 

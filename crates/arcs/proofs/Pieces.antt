@@ -178,6 +178,7 @@ all_insert P x (y ∷ l) p a = go (lt x.lo y.lo) (lt y.lo x.lo) (all_insert P x 
 
 pub keep-insert : {z : Interval} (x : Interval) (l : List Interval) → Mem z l → Mem z (insert x l)
 unfolding insert
+keep-insert {z = z} x [] m = elim m [ ]
 keep-insert x (y ∷ l) m = go (lt x.lo y.lo) (lt y.lo x.lo) m (keep-insert x l)
   where
     go : {z : Interval} (s t : Bool) → Mem z (y ∷ l) → (Mem z l → Mem z (insert x l)) → Mem z (cond s (x ∷ y ∷ l) (cond t (y ∷ insert x l) (y ∷ l)))
@@ -244,6 +245,7 @@ Nearest p l k = Mem k l × (is_full k ≡ false) × ((j : Interval) → Mem j l 
 
 pub none-part : {j : Interval} (l : List Interval) → all_full l ≡ true → Mem j l → is_full j ≡ true
 unfolding all_full
+none-part {j = j} [] h x = elim x [ ]
 none-part (i ∷ l) h first = and_l _ _ h
 none-part (i ∷ l) h (later m) = none-part l (and_r (is_full i) _ h) m
 

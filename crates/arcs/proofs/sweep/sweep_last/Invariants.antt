@@ -1,0 +1,23 @@
+-- `arcs::sweep::sweep_last`: the loop keeps that the front and the piece after it still have to be clipped by the arcs that are left. A turn is in
+use mathlib.Core.Path.{◌≡◌, refl, subst}
+use mathlib.Core.Bool.{Bool}
+use Prim.Native.Nat.{ℕ, ◌+◌, ◌-◌, ◌<◌}
+use native.Mathlib.Omega.{arith}
+use lib.ListN.{length, take, get_or, length-set}
+use lib.Ieee.{nan}
+use Rattle.order.proofs.Ranks.{and_l, and_r}
+use Rattle.s1.specs.declared.interval.Interval.{Interval}
+use Rattle.s1.specs.Circle.{ends}
+use Rattle.sort.specs.Arrays.{zip}
+use Rattle.arcs.specs.Inside.{Spared, Passed, IsSwept}
+use Rattle.arcs.proofs.Tests.{on}
+use Rattle.arcs.proofs.Lasts.{swept-turn}
+use borrow.Author.Rules.{rules}
+use Rattle.arcs.proofs.sweep.sweep_last.Given as goal
+
+abbrev pub invariant-loop-k : goal.invariant-loop-k
+invariant-loop-k l = IsSwept (take l.n (zip l.west l.east)) l.first l.n l.initial.x (record { l.k = l.k; l.f = l.f; l.b = l.b; l.x = l.x }) (zip l.lo l.hi)
+    × (length l.lo ≡ length l.initial.lo) × (length l.lo ≡ length l.hi) × (length l.hi ≡ length l.initial.hi)
+
+abbrev pub decreases-loop-k : goal.decreases-loop-k
+decreases-loop-k l = l.n - l.k

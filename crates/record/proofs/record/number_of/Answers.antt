@@ -1,0 +1,12 @@
+-- `record::record::number_of`: in each arm the number is the definition's. Assumes nothing.
+use Rattle.record.specs.Records.{record_number}
+use borrow.Author.Rules.{rules}
+use Rattle.record.proofs.record.number_of.Goals as goal
+
+pub returns-in-Rectangle : goal.returns-in-Rectangle
+unfolding record_number
+returns-in-Rectangle c = simp c.x-1.given.1
+
+pub returns-in-Refused : goal.returns-in-Refused
+unfolding record_number
+returns-in-Refused c = simp c.x-in-Refused-1.given.1
