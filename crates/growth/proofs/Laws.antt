@@ -216,6 +216,7 @@ doubles-of [] q = tt
 doubles-of (p ∷ l) q = (record { lat-double = q.0.lat-double; lng-double = q.0.lng-double }, doubles-of l q.1)
 
 valid-at : {p : LatLng} (ps : List LatLng) → All ValidPoint ps → Mem p ps → ValidPoint p
+valid-at [] q x = elim x [ ]
 valid-at (p ∷ l) q first = q.0
 valid-at (o ∷ l) q (later m) = valid-at l q.1 m
 

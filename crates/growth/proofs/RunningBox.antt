@@ -166,6 +166,7 @@ among b (o ∷ l) v d {p} m = go (point-decided o d.0) (λ k. among (after b o) 
     go (inr h) ih = let k = ih (subst (Mem p) (fewer v o l h) m) in (later k.0, k.1)
 
 pub taken-up : (b : Rect) (ps : List LatLng) → Valid b → All DoublePoint ps → {p : LatLng} → Mem p ps → ValidPoint p → Mem p (accepted_of b ps)
+taken-up b [] v d {p = p} x4 q = elim x4 [ ]
 taken-up b (o ∷ l) v d first q = subst (Mem o) (sym (more v o l q)) first
 taken-up b (o ∷ l) v d {p} (later m) q = go (point-decided o d.0) (taken-up (after b o) l (call-valid v o d.0) d.1 m q)
   where
@@ -204,6 +205,7 @@ all-accepted b (p ∷ l) v q = more v p l q.0 ∙ ap (λ (m : List LatLng). p �
 -- each is held at the end
 pub point-held : (b : Rect) (ps : List LatLng) → Valid b → All DoublePoint ps → {p : LatLng} → Mem p ps → ValidPoint p → holds (running b ps) (place_of p) ≡ true
 unfolding running
+point-held b [] v d {p = p} x4 q = elim x4 [ ]
 point-held b (p ∷ l) v d first q =
     run_holds (after b p) l (call-valid v p d.0) d.1 (place_of p) (point-place q)
     (ap (λ (x : Rect). holds x (place_of p)) (call-good v p q) ∙ (add_holds b p v q).1)

@@ -10,7 +10,7 @@ use borrow.Author.Rules.{rules}
 use Rattle.arcs.proofs.clip.clip_while.Goals as goal
 
 pub loop-k-init : goal.loop-k-init
-loop-k-init c = (refl, c.requires.1.1, c.requires.1.0, refl, c.requires.0.pieces-even, refl)
+loop-k-init c = (refl, c.requires.first_le_n.1, c.requires.first_le_n.0, refl, c.requires.room.pieces-even, refl)
 
 pub returns-then-s-most : goal.returns-then-s-most
 returns-then-s-most c = record { is = c.loop-k.invariant.0; up_to = c.loop-k.invariant.2; few = c.loop-k.invariant.1; stops = λ h. c.if-s-most.true }
@@ -18,7 +18,7 @@ returns-then-s-most c = record { is = c.loop-k.invariant.0; up_to = c.loop-k.inv
 pub loop-k-preserved : goal.loop-k-preserved
 loop-k-preserved c =
     let w = c.args in
-    let r = c.requires.0 in
+    let r = c.requires.room in
     let h = c.loop-k-test.true in (
       clipped-turn w.west.now w.east.now w.n c.loop-k.k h r.arcs r.arcs-even _ _ c.clip_one-s.ensures.is ∙ c.loop-k.invariant.0,
       omega (arith, c.clip_one-s.ensures.few),

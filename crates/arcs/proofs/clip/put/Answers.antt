@@ -13,6 +13,7 @@ use Rattle.arcs.proofs.Tests.{off, on}
 use Rattle.arcs.proofs.Turns.{put-move, put-past, put_same, put-end}
 use borrow.Author.Rules.{rules}
 use Rattle.arcs.proofs.clip.put.Goals as goal
+use Rattle.arcs.proofs.clip.put.Goals.{then-moved-c, else-moved-c+else-not-y-c}
 
 pub loop-i-init : goal.loop-i-init
 loop-i-init c = (refl, omega arith, omega arith, omega arith, omega arith, refl, refl)
@@ -23,7 +24,7 @@ returns-then-not-y-c c =
     let h : c.loop-i.i < n = omega arith in
     let b : n ≤ length c.loop-i.lo = omega arith in
     let q : length c.loop-i.lo ≡ length c.loop-i.hi = c.loop-i.invariant.4 in
-    record { is = put_same c.loop-i.lo c.loop-i.hi n c.loop-i.i h b q c.loop-i.moved c.loop-i.c c.if-moved-c.false (off _ c.if-not-y-c.true) ∙ c.loop-i.invariant.0; few = omega arith }
+    record { is = put_same c.loop-i.lo c.loop-i.hi n c.loop-i.i h b q c.loop-i.moved c.loop-i.c c.if-moved-c.false c.if-not-y-c.true ∙ c.loop-i.invariant.0; few = omega arith }
 
 pub loop-i-preserved : goal.loop-i-preserved
 loop-i-preserved c =
@@ -31,10 +32,10 @@ loop-i-preserved c =
     let h : c.loop-i.i < n = omega arith in
     let b : n ≤ length c.loop-i.lo = omega arith in
     let q : length c.loop-i.lo ≡ length c.loop-i.hi = c.loop-i.invariant.4 in
-    ⊎_elim
-    (λ w. rw (w.1, w.2, w.3, w.4) (put-move c.loop-i.lo c.loop-i.hi n c.loop-i.i h b q c.loop-i.moved c.loop-i.c w.0.taken ∙ c.loop-i.invariant.0, omega arith, omega arith, simp length-set c.loop-i.invariant.3, simp length-set c.loop-i.invariant.4, simp length-set c.loop-i.invariant.5, simp length-set c.loop-i.invariant.6))
-    (λ w. rw (w.4, w.5, w.6, w.7) (put-past c.loop-i.lo c.loop-i.hi n c.loop-i.i h b q c.loop-i.moved c.loop-i.c w.0.left (on _ w.3.left) ∙ c.loop-i.invariant.0, omega arith, omega arith, c.loop-i.invariant.3, c.loop-i.invariant.4, c.loop-i.invariant.5, c.loop-i.invariant.6))
-    c.if-moved-c.branch
+    elim c.if-moved-c.branch [
+      then-moved-c w ↦ rw (w.lo-is, w.hi-is, w.c-is, w.moved-is) (put-move c.loop-i.lo c.loop-i.hi n c.loop-i.i h b q c.loop-i.moved c.loop-i.c w.if-moved-c.true ∙ c.loop-i.invariant.0, omega arith, omega arith, simp length-set c.loop-i.invariant.3, simp length-set c.loop-i.invariant.4, simp length-set c.loop-i.invariant.5, simp length-set c.loop-i.invariant.6)
+    | else-moved-c+else-not-y-c w ↦ rw (w.lo-is, w.hi-is, w.c-is, w.moved-is) (put-past c.loop-i.lo c.loop-i.hi n c.loop-i.i h b q c.loop-i.moved c.loop-i.c w.if-moved-c.false w.if-not-y-c.false ∙ c.loop-i.invariant.0, omega arith, omega arith, c.loop-i.invariant.3, c.loop-i.invariant.4, c.loop-i.invariant.5, c.loop-i.invariant.6) ]
+
 
 pub returns : goal.returns
 returns c =

@@ -1,4 +1,5 @@
 -- `arcs::clip::put`: the loop keeps that the pieces before the place at hand, with what is still to be put among the rest, are the pieces
+-- with the new one in its place. A turn is in proofs/Insertion.antt, and in two arrays in proofs/Turns.antt. Assumes nothing.
 use mathlib.Core.Path.{◌≡◌, refl, sym, ap, ◌∙◌}
 use mathlib.Core.List.{List, ◌++◌}
 use mathlib.Core.Logic.{⊎_elim}
@@ -14,7 +15,6 @@ use Rattle.arcs.proofs.Turns.{put-move, put-past, put_same, put-end}
 use borrow.Author.Rules.{rules}
 use Rattle.arcs.proofs.clip.put.Given as goal
 
--- with the new one in its place. A turn is in proofs/Insertion.antt, and in two arrays in proofs/Turns.antt. Assumes nothing.
 abbrev pub invariant-loop-i : goal.invariant-loop-i
 invariant-loop-i l = (take l.i (zip l.lo l.hi) ++ walk l.moved l.c (drop l.i (take l.n (zip l.lo l.hi))) ≡ insert l.initial.c (take l.n (zip l.initial.lo l.initial.hi))) × (l.i ≤ l.n) × (l.n ≤ 1024) × (l.n < length l.lo) × (length l.lo ≡ length l.hi) × (length l.lo ≡ length l.initial.lo) × (length l.hi ≡ length l.initial.hi)
 

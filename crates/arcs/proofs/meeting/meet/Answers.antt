@@ -1,4 +1,5 @@
 -- `arcs::meeting::meet`: without room nothing is done; where x does not rise there is nothing in common; and what is left of x by arcs that have been read, in
+-- whatever order, is what they have in common (proofs/Rising.antt). Assumes nothing.
 use mathlib.Core.Path.{◌≡◌, refl, sym, ap, ◌∙◌}
 use mathlib.Core.Bool.{Bool, true, false, cond, ◌&&◌, false≢true}
 use mathlib.Core.List.{List, [], ◌∷◌}
@@ -16,7 +17,6 @@ use Rattle.arcs.proofs.Rising.{left-common}
 use borrow.Author.Rules.{rules}
 use Rattle.arcs.proofs.meeting.meet.Goals as goal
 
--- whatever order, is what they have in common (proofs/Rising.antt). Assumes nothing.
 -- ---- what is met, by whether x rises
 met-none : (x : Interval) (l : List Interval) → le x.lo x.hi ≡ false → [] ≡ met x l
 unfolding met rises

@@ -1,4 +1,5 @@
 -- `arcs::meeting::meet_in`: what is left of the piece x once all arcs have clipped it: as they came where there are none or `try_few` got through them all,
+-- else as they lie after `sort`. Assumes nothing.
 use mathlib.Core.Path.{◌≡◌, refl, sym, ap, ◌∙◌}
 use mathlib.Core.List.{List, [], ◌∷◌}
 use Prim.Native.Nat.{ℕ, ◌<◌}
@@ -13,7 +14,6 @@ use Rattle.arcs.proofs.Turns.{first_one, room_as}
 use borrow.Author.Rules.{rules}
 use Rattle.arcs.proofs.meeting.meet_in.Goals as goal
 
--- else as they lie after `sort`. Assumes nothing.
 -- by no arcs, the piece is left
 none-clips : (x : Interval) (arcs p : List Interval) (n : ℕ) → n ≡ 0 → p ≡ x ∷ [] → p ≡ steps (x ∷ []) (take n arcs)
 unfolding steps

@@ -15,7 +15,7 @@ returns-then-n-le-SHORT c = record { is = λ e. absurd (omega (arith, e)); few =
 pub returns : goal.returns
 returns c =
     let w = c.args in
-    let r = c.requires.0 in
+    let r = c.requires.room in
     let t = c.clip_while.ensures in
     let arcs : List Interval = take w.n (zip w.west.now w.east.now) in
     record { is = λ e. clipped-end _ arcs _ (e ∙ sym (length-first w.west.now w.east.now w.n r.arcs r.arcs-even)) ∙ t.is; few = omega (arith, t.few, t.up_to) }

@@ -13,16 +13,16 @@ use Rattle.arcs.proofs.sweep.clip_arcs.Goals as goal
 pub returns-then-first-n : goal.returns-then-first-n
 returns-then-first-n c =
     let w = c.args in
-    let r = c.requires.0 in
+    let r = c.requires.room in
     record {
       is = clipped-end _ (take w.n (zip w.west.now w.east.now)) w.first (c.if-first-n.true ∙ sym (length-first w.west.now w.east.now w.n r.arcs r.arcs-even));
-      few = omega (arith, c.requires.1.0, c.requires.1.1);
+      few = omega (arith, c.requires.first_le_n.0, c.requires.first_le_n.1);
     }
 
 pub returns : goal.returns
 returns c =
     let w = c.args in
-    let r = c.requires.0 in
+    let r = c.requires.room in
     let k = c.clip_while.result in
     let t = c.clip_while.ensures in
     let arcs : List Interval = take w.n (zip w.west.now w.east.now) in

@@ -14,7 +14,9 @@ use borrow.Author.Rules.{rules}
 use Rattle.arcs.proofs.sweep.close_at.Goals as goal
 
 pub clip_arcs-requires : goal.clip_arcs-requires
-clip_arcs-requires c = let j = c.spared-j.ensures in record { room = room_as c.requires.0 refl refl c.close-m.auto.lo c.close-m.auto.hi; first_le_n = (j.up_to, omega (arith, c.close-m.ensures.few, c.requires.1.1, j.from)) }
+clip_arcs-requires c =
+    let j = c.spared-j.ensures in
+    record { room = room_as c.requires.room refl refl c.close-m.auto.lo c.close-m.auto.hi; first_le_n = (j.up_to, omega (arith, c.close-m.ensures.few, c.requires.k_lt_n.1, j.from)) }
 
 pub returns : goal.returns
 returns c =

@@ -19,5 +19,5 @@ loop-k-init c = record { is = λ l q. refl; from = omega arith; up_to = omega ar
 pub loop-k-preserved : goal.loop-k-preserved
 loop-k-preserved c =
     let w = c.args in
-    let o = subst (λ (r : Bool). Spared (ends (get_or w.west.now c.loop-k.k nan) (get_or w.east.now c.loop-k.k nan)) w.last r) (on _ c.if-not-spares.false) c.spares.ensures in
+    let o = subst (λ (r : Bool). Spared (ends (get_or w.west.now c.loop-k.k nan) (get_or w.east.now c.loop-k.k nan)) w.last r) c.if-not-spares.false c.spares.ensures in
     skipped-turn w.west.now w.east.now w.first w.n c.loop-k.k w.last (omega arith) (omega arith) (omega arith) c.loop-k.invariant o

@@ -1,4 +1,5 @@
 -- `arcs::sweep::sweep_from`: where the sweep stops at an arc's gap that the piece ends before, the piece is closed there (proofs/Lasts.antt); else it is put
+-- after the front, and the arcs that are left clip them all. Assumes nothing.
 use mathlib.Core.Path.{◌≡◌, refl, ap, ◌∙◌, subst}
 use mathlib.Core.Bool.{Bool, true, ◌&&◌}
 use mathlib.Core.List.{List}
@@ -18,21 +19,20 @@ use Rattle.arcs.proofs.Lasts.{put_last, closed-turn, left_is}
 use borrow.Author.Rules.{rules}
 use Rattle.arcs.proofs.sweep.sweep_from.Goals as goal
 
--- after the front, and the arcs that are left clip them all. Assumes nothing.
 -- less by one
 under : {m n : ℕ} → m + 1 < n → m < n
 under h = omega (arith, h)
 
 pub sweep_last-s-requires : goal.sweep_last-s-requires
-sweep_last-s-requires c = record { room = c.requires.0; first_le_n = c.requires.1 }
+sweep_last-s-requires c = record { room = c.requires.room; first_le_n = c.requires.first_le_n }
 
 pub close_at-requires : goal.close_at-requires
-close_at-requires c = record { room = room_as c.requires.0 refl refl c.sweep_last-s.auto.lo c.sweep_last-s.auto.hi; k_lt_n = (c.if-k-n.true, c.sweep_last-s.ensures.few) }
+close_at-requires c = record { room = room_as c.requires.room refl refl c.sweep_last-s.auto.lo c.sweep_last-s.auto.hi; k_lt_n = (c.if-k-n.true, c.sweep_last-s.ensures.few) }
 
 pub returns-then-spares-y : goal.returns-then-spares-y
 returns-then-spares-y c =
     let w = c.args in
-    let r = c.requires.0 in
+    let r = c.requires.room in
     let y = c.sweep_last-s.result.x in
     let lo = c.sweep_last-s.new.lo in
     let hi = c.sweep_last-s.new.hi in
@@ -47,7 +47,7 @@ returns-then-spares-y c =
     c.close_at.ensures
 
 pub clip_arcs-requires : goal.clip_arcs-requires
-clip_arcs-requires c = record { room = room_as c.requires.0 refl refl (simp length-set c.sweep_last-s.auto.lo) (simp length-set c.sweep_last-s.auto.hi); first_le_n = (c.sweep_last-s.ensures.up_to, omega (arith, c.sweep_last-s.ensures.few)) }
+clip_arcs-requires c = record { room = room_as c.requires.room refl refl (simp length-set c.sweep_last-s.auto.lo) (simp length-set c.sweep_last-s.auto.hi); first_le_n = (c.sweep_last-s.ensures.up_to, omega (arith, c.sweep_last-s.ensures.few)) }
 
 pub shape_of-lo : goal.shape_of-lo
 shape_of-lo c = simp length-set at c.clip_arcs.auto.lo ∙ c.sweep_last-s.auto.lo
@@ -61,6 +61,6 @@ returns c =
     let lo = c.sweep_last-s.new.lo in
     let hi = c.sweep_last-s.new.hi in
     let arcs : List Interval = take w.n (zip w.west.now w.east.now) in
-    let rm : Room w.n w.west.now w.east.now lo hi = room_as c.requires.0 refl refl c.sweep_last-s.auto.lo c.sweep_last-s.auto.hi in
+    let rm : Room w.n w.west.now w.east.now lo hi = room_as c.requires.room refl refl c.sweep_last-s.auto.lo c.sweep_last-s.auto.hi in
     let e = put_last lo hi c.sweep_last-s.result.f c.sweep_last-s.result.x.lo c.sweep_last-s.result.x.hi (omega (arith, rm.pieces, c.sweep_last-s.ensures.few, c.sweep_last-s.ensures.up_to)) rm.pieces-even in
     left_is c.clip_arcs.ensures (ap (λ (l : List Interval). steps l (drop c.sweep_last-s.result.k arcs)) e ∙ c.sweep_last-s.ensures.is)

@@ -1,4 +1,5 @@
 -- `arcs::sweep::sweep_last`: the loop keeps that the front and the piece after it still have to be clipped by the arcs that are left. A turn is in
+-- proofs/Lasts.antt. Assumes nothing.
 use mathlib.Core.Path.{◌≡◌, refl, subst}
 use mathlib.Core.Bool.{Bool}
 use Prim.Native.Nat.{ℕ, ◌+◌, ◌-◌, ◌<◌}
@@ -15,15 +16,12 @@ use Rattle.arcs.proofs.Lasts.{swept-turn}
 use borrow.Author.Rules.{rules}
 use Rattle.arcs.proofs.sweep.sweep_last.Goals as goal
 
--- proofs/Lasts.antt. Assumes nothing.
 -- less by one, of numbers that are equal
 under : {n l m : ℕ} → n + 1 < l → m ≡ l → n < m
 under h e = omega (arith, h, e)
 
 pub loop-k-init : goal.loop-k-init
-loop-k-init c =
-    let p = c.requires in
-    (record { is = refl; settled = tt; part = p.1.1; from = omega arith; up_to = p.1.0; few = omega arith }, refl, p.0.pieces-even, refl)
+loop-k-init c = (record { is = refl; settled = tt; part = c.requires.first_le_n.1; from = omega arith; up_to = c.requires.first_le_n.0; few = omega arith }, refl, c.requires.room.pieces-even, refl)
 
 pub returns-then-not-spares-passes : goal.returns-then-not-spares-passes
 returns-then-not-spares-passes c = c.loop-k.invariant.0
@@ -31,8 +29,8 @@ returns-then-not-spares-passes c = c.loop-k.invariant.0
 pub loop-k-preserved : goal.loop-k-preserved
 loop-k-preserved c =
     let w = c.args in
-    let r = c.requires.0 in
-    let t = on _ c.if-not-spares-passes.false in
+    let r = c.requires.room in
+    let t = c.if-not-spares-passes.false in
     let a : Interval = ends (get_or w.west.now c.loop-k.k nan) (get_or w.east.now c.loop-k.k nan) in
     let o = subst (λ (r : Bool). Spared a c.loop-k.b r) (and_l c.spares.result c.passes.result t) c.spares.ensures in
     let u = subst (λ (r : Bool). Passed a c.loop-k.x r) (and_r c.spares.result c.passes.result t) c.passes.ensures in

@@ -1,4 +1,5 @@
 -- `arcs::sweep::sweep_last`: the loop keeps that the front and the piece after it still have to be clipped by the arcs that are left. A turn is in
+-- proofs/Lasts.antt. Assumes nothing.
 use mathlib.Core.Path.{◌≡◌, refl, subst}
 use mathlib.Core.Bool.{Bool}
 use Prim.Native.Nat.{ℕ, ◌+◌, ◌-◌, ◌<◌}
@@ -16,7 +17,7 @@ use borrow.Author.Rules.{rules}
 use Rattle.arcs.proofs.sweep.sweep_last.Given as goal
 
 abbrev pub invariant-loop-k : goal.invariant-loop-k
-invariant-loop-k l = IsSwept (take l.n (zip l.west l.east)) l.first l.n l.initial.x (record { l.k = l.k; l.f = l.f; l.b = l.b; l.x = l.x }) (zip l.lo l.hi)
+invariant-loop-k l = IsSwept (take l.n (zip l.west l.east)) l.first l.n l.initial.x (record { k = l.k; f = l.f; b = l.b; x = l.x }) (zip l.lo l.hi)
     × (length l.lo ≡ length l.initial.lo) × (length l.lo ≡ length l.hi) × (length l.hi ≡ length l.initial.hi)
 
 abbrev pub decreases-loop-k : goal.decreases-loop-k

@@ -17,4 +17,8 @@ push-requires c = (omega (arith, c.put_number.ensures.n_bound, c.requires.0), c.
 
 pub returns : goal.returns
 unfolding element_text
-returns c = let z : ℤ = c.args.z in let m = c.args.mark in let e = to_z-of_z w64 z c.ranges.z in record { grows = grows-as (grows-both c.put_number.ensures.grows c.push.ensures) (ap (λ (k : ℤ). number_text k ++ (m ∷ [])) e); n_bound = omega (arith, c.push.ensures.long, c.put_number.ensures.n_bound) }
+returns c =
+    let z : ℤ = c.args.z in
+    let m = c.args.mark in
+    let e = to_z-of_z w64 z c.ranges.z in
+    record { grows = grows-as (grows-both c.put_number.ensures.grows c.push.ensures) (ap (λ (k : ℤ). number_text k ++ (m ∷ [])) e); n_bound = omega (arith, c.push.ensures.long, c.put_number.ensures.n_bound) }

@@ -18,16 +18,12 @@ returns c =
     let s : SFits w64 b.south = search rules in
     let e : SFits w64 b.east = search rules in
     let n : SFits w64 b.north = search rules in
-    let north = c.put_element.ensures in
-    let east = c.put_element-east.ensures in
-    let south = c.put_element-south.ensures in
-    let west = c.put_element-west.ensures in
     let bracket = c.push-open.ensures in
     held
     (grows-both bracket
-    (grows-both (grows-as west.0 (ap (λ (k : ℤ). element_text k 44) (to_z-of_z w64 b.west w)))
-    (grows-both (grows-as south.0 (ap (λ (k : ℤ). element_text k 44) (to_z-of_z w64 b.south s)))
-    (grows-both (grows-as east.0 (ap (λ (k : ℤ). element_text k 44) (to_z-of_z w64 b.east e)))
-    (grows-as north.0 (ap (λ (k : ℤ). element_text k 93) (to_z-of_z w64 b.north n)))))))
+    (grows-both (grows-as c.put_element-west.ensures.grows (ap (λ (k : ℤ). element_text k 44) (to_z-of_z w64 b.west w)))
+    (grows-both (grows-as c.put_element-south.ensures.grows (ap (λ (k : ℤ). element_text k 44) (to_z-of_z w64 b.south s)))
+    (grows-both (grows-as c.put_element-east.ensures.grows (ap (λ (k : ℤ). element_text k 44) (to_z-of_z w64 b.east e)))
+    (grows-as c.put_element.ensures.grows (ap (λ (k : ℤ). element_text k 93) (to_z-of_z w64 b.north n)))))))
     refl
-    (omega (arith, bracket.long, bracket.size, west.1, west.0.size, south.1, south.0.size, east.1, east.0.size, north.1, north.0.size))
+    (omega (arith, bracket.long, bracket.size, c.put_element-west.ensures.n_bound, c.put_element-west.ensures.grows.size, c.put_element-south.ensures.n_bound, c.put_element-south.ensures.grows.size, c.put_element-east.ensures.n_bound, c.put_element-east.ensures.grows.size, c.put_element.ensures.n_bound, c.put_element.ensures.grows.size))

@@ -1,4 +1,5 @@
 -- `growth::calls::calls`: the loop keeps that the calls so far with those that are left come to the whole (specs/Devices.antt, `SoFar`). The turns are in
+-- proofs/Turns.antt; points that are held already are passed over by `held_until`. Assumes nothing.
 use mathlib.Core.Path.{◌≡◌, refl, sym, subst}
 use mathlib.Core.List.{List}
 use Prim.Native.Nat.{◌+◌, ◌-◌, ◌<◌}
@@ -14,7 +15,6 @@ use Rattle.growth.specs.Devices.{SoFar}
 use Rattle.growth.proofs.Turns.{no-calls-yet, passed_over, enlarged, counted, all_made}
 use Rattle.growth.proofs.calls.calls.Given as goal
 
--- proofs/Turns.antt; points that are held already are passed over by `held_until`. Assumes nothing.
 abbrev pub invariant-loop-i : goal.invariant-loop-i
 invariant-loop-i l = SoFar l.points l.initial.q l.q l.refused l.i × (l.n ≡ length l.points)
 

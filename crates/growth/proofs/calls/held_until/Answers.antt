@@ -1,4 +1,5 @@
 -- `growth::calls::held_until`: the loop keeps that the points passed over change nothing and none of them is refused. One more is passed over by
+-- proofs/Held.antt, `held-turn`. Assumes nothing.
 use mathlib.Core.Path.{◌≡◌, refl, sym, ◌∙◌}
 use Prim.Native.Nat.{◌+◌, ◌-◌}
 use native.Mathlib.Omega.{arith}
@@ -26,7 +27,7 @@ loop-i-preserved c =
     let v = c.requires.valid in
     let fit = c.shared_slice_known-in-loop-i-2-1.given in
     let d : DoublePoint (point_at l i) = record { lat-double = is_true _ (fit i); lng-double = is_true _ (fit (i + 1)) } in
-    let held = sym c.is_held_lem.ensures ∙ passed c.if-not-is_held.false in
+    let held = sym c.is_held.ensures ∙ c.if-not-is_held.false in
     let was = c.loop-i.invariant.0 in (
       record {
         box = held-turn q l i (omega arith) v d held c.requires.no_minus ∙ was.box;

@@ -1,4 +1,5 @@
 -- `growth::calls::held_until`: the loop keeps that the points passed over change nothing and none of them is refused. One more is passed over by
+-- proofs/Held.antt, `held-turn`. Assumes nothing.
 use mathlib.Core.Path.{◌≡◌, refl, sym, ◌∙◌}
 use Prim.Native.Nat.{◌+◌, ◌-◌}
 use native.Mathlib.Omega.{arith}
@@ -12,7 +13,6 @@ use Rattle.growth.proofs.Turns.{passed}
 use Rattle.growth.proofs.Held.{held-turn, held-good}
 use Rattle.growth.proofs.calls.held_until.Given as goal
 
--- proofs/Held.antt, `held-turn`. Assumes nothing.
 abbrev pub invariant-loop-i : goal.invariant-loop-i
 invariant-loop-i l = HeldUntil l.points l.first l.q l.i × (l.n ≡ length l.points)
 

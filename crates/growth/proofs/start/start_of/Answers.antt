@@ -1,4 +1,5 @@
 -- `growth::start::start_of`: each return is a case of `start_of`, by the test that led to it (proofs/Turns.antt); what is accepted is valid, since all
+-- numbers that are handed in are doubles. Assumes nothing.
 use mathlib.Core.Path.{◌≡◌, sym, ◌∙◌}
 use borrow.Author.Rules.{rules}
 use Rattle.s2.specs.declared.rect.Answer.{Answer}
@@ -12,35 +13,28 @@ use Rattle.growth.proofs.Turns.{taken, passed, bad-length, start-refused, start-
 use Rattle.growth.proofs.Made.{started}
 use Rattle.growth.proofs.start.start_of.Goals as goal
 
--- numbers that are handed in are doubles. Assumes nothing.
--- what is known at the entry: the numbers of the rectangle and of the list are doubles
-abbrev Entry : Type 0
-Entry = tie.After-shared-slice-known
-
-doubles : (c : Entry) → Doubles c.before.args.r
-doubles c =
-    let ends = c.before.well-formed.0.1.1 in
-    record { lat-lo = ends.0.1.1.0.1; lat-hi = ends.0.1.1.1.0.1; lng-lo = ends.1.0.1.1.0.1; lng-hi = ends.1.0.1.1.1.0.1 }
-
-double-points : (c : Entry) → All DoublePoint (points_of c.before.args.points.now)
-double-points c = all-double-points c.before.args.points.now c.shared-slice-known.given
-
-so : (c : Entry) (a : Answer) → a ≡ start_of c.before.args.r c.before.args.points.now → Started c.before.args.r c.before.args.points.now a
-so c a e = started (doubles c) (double-points c) e
-
 pub returns-then-not-whole : goal.returns-then-not-whole
 returns-then-not-whole c =
     let a = c.args in
-    so c _ (sym (bad-length a.r a.points.now (sym c.whole.ensures ∙ taken c.if-not-whole.true)))
+    let ends = c.well_formed.0.1.1 in
+    let doubles : Doubles a.r = record { lat-lo = ends.0.1.1.0.1; lat-hi = ends.0.1.1.1.0.1; lng-lo = ends.1.0.1.1.0.1; lng-hi = ends.1.0.1.1.1.0.1 } in
+    let double-points : All DoublePoint (points_of a.points.now) = all-double-points a.points.now c.shared_slice_known-1.given in
+    started doubles double-points (sym (bad-length a.r a.points.now (sym c.whole.ensures ∙ c.if-not-whole.true)))
 
 pub returns-then-start-ne-ACCEPTED : goal.returns-then-start-ne-ACCEPTED
 returns-then-start-ne-ACCEPTED c =
     let a = c.args in
-    let w = sym c.whole.ensures ∙ passed c.if-not-whole.false in
-    so c _ (sym (start-refused a.r a.points.now w c.read_one-start.result c.read_one-start.ensures c.if-start-ne-ACCEPTED.true))
+    let ends = c.well_formed.0.1.1 in
+    let doubles : Doubles a.r = record { lat-lo = ends.0.1.1.0.1; lat-hi = ends.0.1.1.1.0.1; lng-lo = ends.1.0.1.1.0.1; lng-hi = ends.1.0.1.1.1.0.1 } in
+    let double-points : All DoublePoint (points_of a.points.now) = all-double-points a.points.now c.shared_slice_known-1.given in
+    let w = sym c.whole.ensures ∙ c.if-not-whole.false in
+    started doubles double-points (sym (start-refused a.r a.points.now w c.read_one-start.result c.read_one-start.ensures c.if-start-ne-ACCEPTED.true))
 
 pub returns : goal.returns
 returns c =
     let a = c.args in
-    let w = sym c.whole.ensures ∙ passed c.if-not-whole.false in
-    so c _ (sym (start-read a.r a.points.now w c.read_one-start.result c.read_one-start.ensures c.if-start-ne-ACCEPTED.false))
+    let ends = c.well_formed.0.1.1 in
+    let doubles : Doubles a.r = record { lat-lo = ends.0.1.1.0.1; lat-hi = ends.0.1.1.1.0.1; lng-lo = ends.1.0.1.1.0.1; lng-hi = ends.1.0.1.1.1.0.1 } in
+    let double-points : All DoublePoint (points_of a.points.now) = all-double-points a.points.now c.shared_slice_known-1.given in
+    let w = sym c.whole.ensures ∙ c.if-not-whole.false in
+    started doubles double-points (sym (start-read a.r a.points.now w c.read_one-start.result c.read_one-start.ensures c.if-start-ne-ACCEPTED.false))

@@ -5,8 +5,8 @@ use Rattle.record.proofs.record.number_of.Goals as goal
 
 pub returns-in-Rectangle : goal.returns-in-Rectangle
 unfolding record_number
-returns-in-Rectangle c = simp c.x-1.given.1
+returns-in-Rectangle c = simp c.in-Rectangle.is
 
 pub returns-in-Refused : goal.returns-in-Refused
 unfolding record_number
-returns-in-Refused c = simp c.x-in-Refused-1.given.1
+returns-in-Refused c = simp c.in-Refused.is
