@@ -92,6 +92,7 @@ Within l m = (b : Bounds) → Mem b l → Mem b m
 
 mem-rects : {b : Bounds} (l : List Bounds) → Mem b l → Mem (rect_of b) (rects l)
 unfolding rects
+mem-rects {b = b} [] x = elim x [ ]
 mem-rects (b ∷ l) first = first
 mem-rects (b ∷ l) (later m) = later (mem-rects l m)
 
