@@ -16,8 +16,7 @@ box_of-requires c = record { x_value = c.requires.x_value; i_in_bounds = omega (
 
 pub loop-i-preserved : goal.loop-i-preserved
 loop-i-preserved c =
-    let a = c.args in
-    (
+    let a = c.args in (
       one_more a.list.now a.pieces.now c.loop-i.out c.loop-i.n c.loop-i.i c.loop-i.invariant.0 c.box_of.result c.put_line-n.new.out c.put_line-n.result
           (omega (arith, c.loop-i.invariant.0.fours, c.requires.pieces_len.0)) (omega (arith, c.loop-i.invariant.0.few, c.requires.pieces_len.1)) c.box_of.ensures
           c.put_line-n.ensures.value c.put_line-n.ensures.upper_bound c.put_line-n.ensures.out_after,

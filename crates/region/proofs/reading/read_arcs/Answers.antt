@@ -44,38 +44,40 @@ loop-i-preserved c =
     let e : a ≡ (read_one (rect_at l c.loop-i.i)).value.lng = ap (λ (x : One). x.value.lng) c.read_at-x.ensures in
     let band = band-turn l c.loop-i.i h c.loop-i.lat c.intersection-lat.result (c.intersection-lat.ensures ∙ ap (λ (x : One). line.intersection c.loop-i.lat x.value.lat) c.read_at-x.ensures) ∙ c.loop-i.invariant.2 in
     let so_far = c.loop-i.invariant.3 ∙ accepted-here l c.loop-i.i h c.read_at-x.result.refusal (ap (λ (x : One). x.refusal) c.read_at-x.ensures) c.if-x-ne-ACCEPTED.false in
-    elim c.if-a.branch [ then-a w ↦
-      rw (w.west-is, w.east-is, w.lng-is, w.k-is) (
-      risen-turn l c.loop-i.i h a e w.if-a.true c.loop-i.lng w.narrowed-lng.result w.narrowed-lng.ensures ∙ c.loop-i.invariant.0,
-      taken-past l c.loop-i.i h a e w.if-a.true (take c.loop-i.k (zip c.loop-i.west c.loop-i.east)) ∙ c.loop-i.invariant.1,
-      band,
-      so_far,
-      omega arith,
-      omega arith,
-      omega arith,
-      refl,
-      omega arith,
-      c.loop-i.invariant.9,
-      c.loop-i.invariant.10,
-      c.loop-i.invariant.11,
-      c.loop-i.invariant.12,
-    )
-    | else-a w ↦
-      rw (w.west-is, w.east-is, w.lng-is, w.k-is) (
-      risen-past l c.loop-i.i h a e w.if-a.false c.loop-i.lng ∙ c.loop-i.invariant.0,
-      taken-turn l c.loop-i.i h a e w.if-a.false c.loop-i.west c.loop-i.east c.loop-i.k (omega arith) c.loop-i.invariant.10 ∙ c.loop-i.invariant.1,
-      band,
-      so_far,
-      omega arith,
-      omega arith,
-      omega arith,
-      refl,
-      omega arith,
-      simp length-set c.loop-i.invariant.9,
-      simp length-set c.loop-i.invariant.10,
-      simp length-set c.loop-i.invariant.11,
-      simp length-set c.loop-i.invariant.12,
-    ) ]
+    elim c.if-a.branch [
+      | then-a w ↦
+          rw (w.west-is, w.east-is, w.lng-is, w.k-is) (
+            risen-turn l c.loop-i.i h a e w.if-a.true c.loop-i.lng w.narrowed-lng.result w.narrowed-lng.ensures ∙ c.loop-i.invariant.0,
+            taken-past l c.loop-i.i h a e w.if-a.true (take c.loop-i.k (zip c.loop-i.west c.loop-i.east)) ∙ c.loop-i.invariant.1,
+            band,
+            so_far,
+            omega arith,
+            omega arith,
+            omega arith,
+            refl,
+            omega arith,
+            c.loop-i.invariant.9,
+            c.loop-i.invariant.10,
+            c.loop-i.invariant.11,
+            c.loop-i.invariant.12,
+          )
+      | else-a w ↦
+          rw (w.west-is, w.east-is, w.lng-is, w.k-is) (
+            risen-past l c.loop-i.i h a e w.if-a.false c.loop-i.lng ∙ c.loop-i.invariant.0,
+            taken-turn l c.loop-i.i h a e w.if-a.false c.loop-i.west c.loop-i.east c.loop-i.k (omega arith) c.loop-i.invariant.10 ∙ c.loop-i.invariant.1,
+            band,
+            so_far,
+            omega arith,
+            omega arith,
+            omega arith,
+            refl,
+            omega arith,
+            simp length-set c.loop-i.invariant.9,
+            simp length-set c.loop-i.invariant.10,
+            simp length-set c.loop-i.invariant.11,
+            simp length-set c.loop-i.invariant.12,
+          )
+    ]
 
 pub returns : goal.returns
 returns c =

@@ -23,8 +23,7 @@ returns-then-f-ne-ACCEPTED c =
 
 pub list_pieces-requires : goal.list_pieces-requires
 list_pieces-requires c =
-    let p = c.requires in
-    (
+    let p = c.requires in (
       omega (arith, c.find-f.ensures.few, p.most),
       omega (arith, c.find-f.ensures.few, p.pieces, c.find-f.auto.lo),
       c.find-f.auto.lo ∙ p.pieces-even ∙ sym c.find-f.auto.hi,

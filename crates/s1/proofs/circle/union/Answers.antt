@@ -1,4 +1,5 @@
 -- `s1::circle::union`: at each return the answer is the definition's, under the tests that led there. Each test is read once, at the place where it has
+-- been passed. Assumes nothing.
 use mathlib.Core.Path.{◌≡◌, sym, ◌∙◌}
 use mathlib.Core.Bool.{true, false, cond}
 use lib.Ieee as Ieee

@@ -1,4 +1,5 @@
 -- `s1::reading::refusal_of`: at each return the answer is the definition's, under the tests that led there; what is valid is in reach, and what is
+-- usual is valid. Assumes nothing.
 use mathlib.Core.Path.{◌≡◌, sym, ◌∙◌}
 use mathlib.Core.Bool.{true}
 use lib.Ieee.{binary64, fits}
@@ -9,7 +10,6 @@ use Rattle.s1.proofs.Readings.{valid-reach, usual-valid}
 use borrow.Author.Rules.{rules}
 use Rattle.s1.proofs.reading.refusal_of.Goals as goal
 
--- usual is valid. Assumes nothing.
 pub returns-then-is_usual : goal.returns-then-is_usual
 unfolding read_one
 returns-then-is_usual c =

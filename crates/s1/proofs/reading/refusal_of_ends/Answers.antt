@@ -1,4 +1,5 @@
 -- `s1::reading::refusal_of_ends`: at each return the answer is the definition's, under the tests that led there; a point of the circle is in
+-- reach. Assumes nothing.
 use mathlib.Core.Path.{◌≡◌}
 use mathlib.Core.Bool.{true, ◌&&◌}
 use lib.Ieee.{binary64, fits}
@@ -8,7 +9,6 @@ use Rattle.s1.proofs.Readings.{circle-reach}
 use borrow.Author.Rules.{rules}
 use Rattle.s1.proofs.reading.refusal_of_ends.Goals as goal
 
--- reach. Assumes nothing.
 pub returns-then-on_circle : goal.returns-then-on_circle
 unfolding read_ends
 returns-then-on_circle c =

@@ -1,4 +1,5 @@
 -- `s2::reading::one_refusal`: at each return the answer is the definition's, under the tests that led there; what is usual is
+-- accepted, and one rectangle asked about twice has its own refusal. Assumes nothing.
 use mathlib.Core.Path.{◌≡◌, sym, ◌∙◌}
 use mathlib.Core.Bool.{true}
 use Rattle.s2.specs.Places.{Doubles}
@@ -7,7 +8,6 @@ use Rattle.s2.specs.Devices.{usual}
 use Rattle.s2.proofs.Readings.{usual-in, first-same}
 use Rattle.s2.proofs.reading.one_refusal.Goals as goal
 
--- accepted, and one rectangle asked about twice has its own refusal. Assumes nothing.
 pub returns-then-is_usual : goal.returns-then-is_usual
 returns-then-is_usual c =
     let r = c.args.r in

@@ -1,4 +1,5 @@
 -- `s2::reading::refusal_of`: at each return the answer is the definition's, under the tests that led there; what is valid is in reach, but perhaps for
+-- its lat.hi. Assumes nothing.
 use mathlib.Core.Path.{◌≡◌}
 use mathlib.Core.Bool.{true, ◌&&◌}
 use Rattle.order.proofs.Ranks.{and_l, and_r}
@@ -9,7 +10,6 @@ use Rattle.s2.specs.Reading.{read_one}
 use Rattle.s2.proofs.Readings.{valid-reach, no-fault}
 use Rattle.s2.proofs.reading.refusal_of.Goals as goal
 
--- its lat.hi. Assumes nothing.
 pub returns-then-is_valid-in_reach : goal.returns-then-is_valid-in_reach
 unfolding read_one
 returns-then-is_valid-in_reach c =

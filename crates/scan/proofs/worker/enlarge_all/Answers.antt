@@ -1,4 +1,5 @@
--- `scan::worker::enlarge_all`: the number is growth's, and the box that is left is growth's under 0, else the lent one. Assumes nothing.
+-- `scan::worker::enlarge_all` meets its contract: the walk of `enlarge`, with the list passed on to `grow`; the list stays lent, and what it owns is kept for
+-- the return. Assumes nothing.
 use mathlib.Core.Path.{◌≡◌, ap, ◌∙◌}
 use Rattle.s2.specs.declared.rect.Answer.{Answer}
 use Rattle.growth.specs.RunningBox.{kept}

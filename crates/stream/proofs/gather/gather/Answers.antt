@@ -21,12 +21,11 @@ pub returns-in_default : goal.returns-in_default
 returns-in_default c = record { is = bad _ c.loop-k.list c.loop-k.k c.loop-k.invariant.0 c.read_record-x.result _ c.number_of.result (omega arith) (omega arith) c.read_record-x.ensures c.in_default.is c.number_of.ensures; few = omega arith }
 
 pub loop-k-preserved : goal.loop-k-preserved
-loop-k-preserved c =
-    (
-      good _ c.loop-k.list c.loop-k.k c.loop-k.invariant.0 _ c.read_record-x.result _ (omega arith) (omega arith) c.loop-k.invariant.2 c.read_record-x.ensures c.in-Rectangle.is c.put_rect.ensures,
-      omega arith,
-      ap length c.put_rect.ensures ∙ length-put _ _ c.loop-k.list ∙ c.loop-k.invariant.2,
-    )
+loop-k-preserved c = (
+  good _ c.loop-k.list c.loop-k.k c.loop-k.invariant.0 _ c.read_record-x.result _ (omega arith) (omega arith) c.loop-k.invariant.2 c.read_record-x.ensures c.in-Rectangle.is c.put_rect.ensures,
+  omega arith,
+  ap length c.put_rect.ensures ∙ length-put _ _ c.loop-k.list ∙ c.loop-k.invariant.2,
+)
 
 pub returns : goal.returns
 returns c =

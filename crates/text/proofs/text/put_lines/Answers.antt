@@ -1,4 +1,5 @@
 -- `text::text::put_lines`: the lines still to come, from the present place on into the present output, make the whole. The measure is what is left of
+-- the list. Assumes nothing.
 use mathlib.Core.Path.{◌≡◌, refl, sym, ◌∙◌}
 use Prim.Native.Nat.{◌+◌, ◌-◌, ◌*◌, ◌%◌, ◌≤◌}
 use native.Mathlib.Omega.{arith}

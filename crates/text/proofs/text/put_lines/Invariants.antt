@@ -1,4 +1,5 @@
 -- `text::text::put_lines`: the lines still to come, from the present place on into the present output, make the whole. The measure is what is left of
+-- the list. Assumes nothing.
 use mathlib.Core.Path.{◌≡◌, refl, sym, ◌∙◌}
 use Prim.Native.Nat.{◌+◌, ◌-◌, ◌*◌, ◌%◌, ◌≤◌}
 use native.Mathlib.Omega.{arith}
@@ -9,7 +10,6 @@ use Rattle.text.specs.Inside.{put}
 use Rattle.text.proofs.Lines.{lines_none, lines-turn, lines-all}
 use Rattle.text.proofs.text.put_lines.Given as goal
 
--- the list. Assumes nothing.
 abbrev pub invariant-loop-i : goal.invariant-loop-i
 invariant-loop-i l = (put l.at (lines_text l.list) l.initial.out ≡ put (l.at + 17 * l.i) (lines_text (drop l.i l.list)) l.out) × (l.i ≤ length l.list) × (l.i % 4 ≡ 0) × (length l.out ≡ length l.initial.out)
 

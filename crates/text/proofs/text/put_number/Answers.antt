@@ -1,4 +1,5 @@
 -- `text::text::put_number`: the k digits still to come, from the present place on into the present output, make the whole. The measure is k. Assumes
+-- nothing.
 use mathlib.Core.Path.{◌≡◌, refl, sym, ap, ◌∙◌}
 use Prim.Native.Nat.{ℕ, ◌+◌, ◌-◌, ◌≤◌}
 use native.Mathlib.Omega.{arith}

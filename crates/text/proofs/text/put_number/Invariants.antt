@@ -1,4 +1,5 @@
 -- `text::text::put_number`: the k digits still to come, from the present place on into the present output, make the whole. The measure is k. Assumes
+-- nothing.
 use mathlib.Core.Path.{◌≡◌, refl, sym, ap, ◌∙◌}
 use Prim.Native.Nat.{ℕ, ◌+◌, ◌-◌, ◌≤◌}
 use native.Mathlib.Omega.{arith}
@@ -9,7 +10,6 @@ use Rattle.text.specs.Inside.{put}
 use Rattle.text.proofs.Puts.{put-none, put-digit, put-no-digit}
 use Rattle.text.proofs.text.put_number.Given as goal
 
--- nothing.
 abbrev pub invariant-loop-k : goal.invariant-loop-k
 invariant-loop-k l = (put l.at (hex 16 l.w) l.initial.out ≡ put (l.at + (16 - l.k)) (hex l.k l.w) l.out) × (l.k ≤ 16) × (length l.out ≡ length l.initial.out)
 

@@ -1,4 +1,5 @@
 -- `text::text::write_where`: by the test of the place; the three texts one after the other are the whole, and the count that is compared with the room is
+-- its length. Assumes nothing.
 use mathlib.Core.Path.{◌≡◌, ap, ◌∙◌}
 use mathlib.Core.List.{List}
 use Prim.Native.Nat.{ℕ, ◌+◌, ◌<◌}
@@ -13,7 +14,6 @@ use Rattle.text.proofs.Lines.{put-where}
 use Rattle.text.proofs.Answered.{wrote-fits, wrote_none, left-fits, left-none}
 use Rattle.text.proofs.text.write_where.Goals as goal
 
--- its length. Assumes nothing.
 pub returns-then-place-ge1000 : goal.returns-then-place-ge1000
 returns-then-place-ge1000 c = let h = le-ltb c.args.place 1000 c.if-place-ge1000.true in record { value = simp h; out_after = simp h }
 

@@ -1,4 +1,5 @@
 -- `text::text::write_whole`: the count that is compared with the room is the text's length, and the lines begin where the first line ends. Assumes
+-- nothing.
 use mathlib.Core.Path.{◌≡◌, ap, ◌∙◌}
 use mathlib.Core.List.{List}
 use Prim.Native.Nat.{ℕ, ◌+◌, ◌*◌, ◌≤◌, ◌<◌}
