@@ -24,7 +24,7 @@ ghost use Rattle.ask.specs.Room.{room};
 use crate::parse::asks;
 use crate::print::ROOM;
 use crate::reply::Reply;
-use libc::{STDERR_FILENO, STDIN_FILENO, STDOUT_FILENO};
+use std::io::Read;
 
 // A line of more bytes is no question.
 const LONGEST: usize = 200000;
@@ -40,52 +40,64 @@ struct Place {
 
 // The buffers are made once. The text's has room for one byte more than the longest question, so that
 // a longer line is seen to be longer though its rest is dropped.
-fn main() {
+fn main(rt: HostRuntime) {
     let mut chunk = io::large_buffer();
     let mut text = [0u8; LONGEST + 1];
     let mut out = io::large_buffer();
-    serve(&mut chunk, &mut text, &mut out);
+    serve(&rt, &mut rt.stdin(), &mut chunk, &mut text, &mut out);
 }
 
 // Answers every line, and ends with the input. A proved loop has to end, and nothing says that the
-// input does: so the loop counts its turns down, from a number that no run uses up.
-fn serve(chunk: &mut [u8], text: &mut [u8], out: &mut [u8])
+// input does: so the loop counts its turns, up to a number that no run uses up.
+fn serve<R: Read>(
+    rt: &(impl Print + Eprint),
+    reader: &mut R,
+    chunk: &mut [u8],
+    text: &mut [u8],
+    out: &mut [u8],
+)
     requires { room ≤ length out.old }
 {
     let mut held = 0;
-    let mut turns = u64::MAX;
-    while turns > 0 {
-        let n = fill(chunk);
+    for _ in 0..u64::MAX {
+        let n = fill(reader, chunk);
         if n == 0 {
-            return finish(held, text, out);
+            return finish(rt, held, text, out);
         }
-        held = take_all(&chunk[..n], held, text, out);
-        turns -= 1;
+        held = take_all(rt, &chunk[..n], held, text, out);
     }
 }
 
 // Reads what there is, as far as the buffer goes. 0: the input has ended, or cannot be read.
-fn fill(chunk: &mut [u8]) -> usize
+fn fill<R: Read>(reader: &mut R, chunk: &mut [u8]) -> usize
     ensures { IsPrefixLen result chunk.new }
 {
-    let got = libc::read(STDIN_FILENO, chunk);
-    io::count(got, chunk)
+    match reader.read(chunk) {
+        Ok(n) => n,
+        Err(_) => 0,
+    }
 }
 
 // Answers the last line where it lacks its newline.
-fn finish(held: usize, text: &mut [u8], out: &mut [u8])
+fn finish(rt: &(impl Print + Eprint), held: usize, text: &mut [u8], out: &mut [u8])
     requires room_in_bounds { room ≤ length out.old }
     requires held_in_bounds { held ≤ length text.old }
 {
     if held > 0 {
-        take_all(b"\n", held, text, out);
+        take_all(rt, b"\n", held, text, out);
     }
 }
 
 // Takes the bytes of one read, after `held` bytes of a line that has not ended. Writes the answers to
 // the lines that end in them, so that who asks by hand is answered at once, and says how many bytes
 // are held then.
-fn take_all(bytes: &[u8], held: usize, text: &mut [u8], out: &mut [u8]) -> usize
+fn take_all(
+    rt: &(impl Print + Eprint),
+    bytes: &[u8],
+    held: usize,
+    text: &mut [u8],
+    out: &mut [u8],
+) -> usize
     requires room_in_bounds { room ≤ length out.old }
     requires held_in_bounds { held ≤ length text.old }
     ensures { result ≤ length text.new }
@@ -93,23 +105,23 @@ fn take_all(bytes: &[u8], held: usize, text: &mut [u8], out: &mut [u8]) -> usize
     let mut p = Place { text: held, out: 0 };
     let mut i = 0;
     while i < bytes.len() {
-        p = take(bytes[i], p, text, out);
+        p = take(rt, bytes[i], p, text, out);
         i += 1;
     }
     let at = p.out;
-    put(&out[..at]);
+    put(rt, &out[..at]);
     p.text
 }
 
 // Takes one byte: the end of a line, or one more byte of its text.
-fn take(b: u8, p: Place, text: &mut [u8], out: &mut [u8]) -> Place
+fn take(rt: &(impl Print + Eprint), b: u8, p: Place, text: &mut [u8], out: &mut [u8]) -> Place
     requires room_in_bounds { room ≤ length out.old }
     requires text_in_bounds { (p.text ≤ length text.old) × (p.out ≤ length out.old) }
     ensures { (result.text ≤ length text.new) × (result.out ≤ length out.new) }
 {
     let n = p.text;
     if b == b'\n' {
-        let at = answer_line(&text[..n], p.out, out);
+        let at = answer_line(rt, &text[..n], p.out, out);
         return Place { text: 0, out: at };
     }
     if n < text.len() {
@@ -124,12 +136,12 @@ fn take(b: u8, p: Place, text: &mut [u8], out: &mut [u8]) -> Place
 
 // Puts a line's answer after those that wait. Apart are `common`, `bbox.read` and `bbox.write`, whose
 // answers are a list, a box and a text.
-fn answer_line(s: &[u8], at: usize, out: &mut [u8]) -> usize
+fn answer_line(rt: &(impl Print + Eprint), s: &[u8], at: usize, out: &mut [u8]) -> usize
     requires room_in_bounds { room ≤ length out.old }
     requires at_in_bounds { at ≤ length out.old }
     ensures { result ≤ length out.new }
 {
-    let from = make_room(at, out);
+    let from = make_room(rt, at, out);
     if s.len() > LONGEST {
         return print::unknown(from, out);
     }
@@ -149,23 +161,24 @@ fn answer_line(s: &[u8], at: usize, out: &mut [u8]) -> usize
 }
 
 // Writes the answers that wait where another one may not fit behind them.
-fn make_room(at: usize, out: &mut [u8]) -> usize
+fn make_room(rt: &(impl Print + Eprint), at: usize, out: &mut [u8]) -> usize
     requires room_in_bounds { room ≤ length out.old }
     requires at_in_bounds { at ≤ length out.old }
     ensures { result + room ≤ length out.new }
 {
     if at > out.len() - ROOM {
-        put(&out[..at]);
+        put(rt, &out[..at]);
         return 0;
     }
     at
 }
 
-// Writes answers. A program has no exit status: what cannot be written, as on a full disk, is told on
-// standard error.
-fn put(answers: &[u8]) {
-    if !io::write_all(STDOUT_FILENO, answers) {
-        io::write_all(STDERR_FILENO, b"ask: answers cannot be written\n");
+// Writes answers. What cannot be written, as on a full disk, is told on standard error; the exit status
+// stays 0.
+fn put(rt: &(impl Print + Eprint), answers: &[u8]) {
+    if rt.write_all(answers).is_err() {
+        // Where this cannot be written either, nobody is left to tell.
+        let _ = rt.eprintln("ask: answers cannot be written");
     }
 }
 

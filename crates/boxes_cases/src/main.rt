@@ -5,7 +5,7 @@
 
 ghost use Rattle.std.specs.Prelude.{◌≤◌, ◌<◌, length};
 
-use libc::STDOUT_FILENO;
+use std::io::Read;
 
 // Room for all cases: they have 21,037 bytes.
 const LIMIT: usize = 32768;
@@ -13,28 +13,28 @@ const LIMIT: usize = 32768;
 // Room for any answer here: the longest is two lines.
 const ROOM: usize = 128;
 
-fn main() {
+fn main(rt: HostRuntime) {
     let mut s = [0u8; LIMIT];
-    show_input(&mut s);
+    show_input(&rt, &mut rt.stdin(), &mut s);
 }
 
 // Where the input cannot be read there is no case.
-fn show_input(s: &mut [u8]) {
-    let x = input::read_all(s);
+fn show_input<R: Read>(rt: &impl Print, reader: &mut R, s: &mut [u8]) {
+    let x = input::read_all(reader, s);
     let n = x.count;
-    show_all(&s[..n])
+    show_all(rt, &s[..n])
 }
 
 // One case after the other. One whose bytes are not all there is the last, and is not shown.
-fn show_all(s: &[u8]) {
+fn show_all(rt: &impl Print, s: &[u8]) {
     let mut at = 0;
     while at < s.len() {
-        at += show_first(&s[at..]);
+        at += show_first(rt, &s[at..]);
     }
 }
 
 // Shows the case at the start of s, and tells where it ends.
-fn show_first(s: &[u8]) -> usize
+fn show_first(rt: &impl Print, s: &[u8]) -> usize
     requires { 0 < length s.now }
     ensures result_nonzero { 0 < result }
     ensures upper_bound { result ≤ length s.now }
@@ -44,34 +44,35 @@ fn show_first(s: &[u8]) -> usize
     let line = c.line;
     let bytes = c.bytes;
     let end = c.end;
-    show(c.sort, &s[label..line], &s[bytes..end]);
+    show(rt, c.sort, &s[label..line], &s[bytes..end]);
     end
 }
 
 // Writes a case's label and its answer.
-fn show(sort: u8, label: &[u8], s: &[u8]) {
+fn show(rt: &impl Print, sort: u8, label: &[u8], s: &[u8]) {
     if sort == b'b' {
-        print(b"case ");
-        print(label);
-        print(b"\n");
-        answer(s);
+        print(rt, b"case ");
+        print(rt, label);
+        print(rt, b"\n");
+        answer(rt, s);
     }
 }
 
 // Writes the answer to an input.
-fn answer(s: &[u8]) {
+fn answer(rt: &impl Print, s: &[u8]) {
     let mut out = [0u8; ROOM];
     let w = box_lines::boxes_text(s, &mut out);
-    print_front(&out, w.count);
+    print_front(rt, &out, w.count);
 }
 
 // Writes the first n bytes.
-fn print_front(s: &[u8], n: usize) {
+fn print_front(rt: &impl Print, s: &[u8], n: usize) {
     if n <= s.len() {
-        print(&s[..n]);
+        print(rt, &s[..n]);
     }
 }
 
-fn print(s: &[u8]) {
-    io::write_all(STDOUT_FILENO, s);
+// What cannot be written is missing in the output: the stored one shows it.
+fn print(rt: &impl Print, s: &[u8]) {
+    let _ = rt.write_all(s);
 }

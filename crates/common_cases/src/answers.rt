@@ -1,6 +1,5 @@
 // What is written for a stream, and for a record that is read by itself: the rectangle that is handed out,
 // written as a list of one piece is, or the refusal.
-use libc::STDOUT_FILENO;
 use record::Record;
 use s2::rect::Rect;
 
@@ -11,41 +10,42 @@ const ROOM: usize = 34827;
 const RECORD_ROOM: usize = 77;
 
 // Writes the answer to a stream.
-pub(crate) fn answer(s: &[u8]) {
+pub(crate) fn answer(rt: &impl Print, s: &[u8]) {
     let mut out = [0u8; ROOM];
     let w = stream::common_text(s, &mut out);
-    print_front(&out, w.count);
+    print_front(rt, &out, w.count);
 }
 
 // Writes what the record at the start of s is read as.
-pub(crate) fn read(s: &[u8]) {
+pub(crate) fn read(rt: &impl Print, s: &[u8]) {
     let x = record::read_record(s);
     let Record::Rectangle(r) = x else {
-        return write_refused(record::number_of(x));
+        return write_refused(rt, record::number_of(x));
     };
-    write_handed(r)
+    write_handed(rt, r)
 }
 
-fn write_handed(r: Rect) {
+fn write_handed(rt: &impl Print, r: Rect) {
     let list = [r.lat.lo, r.lat.hi, r.lng.lo, r.lng.hi];
     let mut out = [0u8; RECORD_ROOM];
     let w = text::write_pieces(&list, &mut out);
-    print_front(&out, w.count);
+    print_front(rt, &out, w.count);
 }
 
-fn write_refused(n: u8) {
+fn write_refused(rt: &impl Print, n: u8) {
     let mut out = [0u8; RECORD_ROOM];
     let w = text::write_refusal(n, &mut out);
-    print_front(&out, w.count);
+    print_front(rt, &out, w.count);
 }
 
 // Writes the first n bytes.
-fn print_front(s: &[u8], n: usize) {
+fn print_front(rt: &impl Print, s: &[u8], n: usize) {
     if n <= s.len() {
-        print(&s[..n]);
+        print(rt, &s[..n]);
     }
 }
 
-pub(crate) fn print(s: &[u8]) {
-    io::write_all(STDOUT_FILENO, s);
+// What cannot be written is missing in the output: the stored one shows it.
+pub(crate) fn print(rt: &impl Print, s: &[u8]) {
+    let _ = rt.write_all(s);
 }

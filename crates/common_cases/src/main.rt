@@ -9,32 +9,33 @@ mod answers;
 ghost use Rattle.std.specs.Prelude.{◌≤◌, ◌<◌, length};
 
 use crate::answers::{answer, print, read};
+use std::io::Read;
 
 // Room for all cases: they have 170,287 bytes.
 const LIMIT: usize = 196608;
 
-fn main() {
+fn main(rt: HostRuntime) {
     let mut s = [0u8; LIMIT];
-    show_input(&mut s);
+    show_input(&rt, &mut rt.stdin(), &mut s);
 }
 
 // Where the input cannot be read there is no case.
-fn show_input(s: &mut [u8]) {
-    let x = input::read_all(s);
+fn show_input<R: Read>(rt: &impl Print, reader: &mut R, s: &mut [u8]) {
+    let x = input::read_all(reader, s);
     let n = x.count;
-    show_all(&s[..n])
+    show_all(rt, &s[..n])
 }
 
 // One case after the other. One whose bytes are not all there is the last, and is not shown.
-fn show_all(s: &[u8]) {
+fn show_all(rt: &impl Print, s: &[u8]) {
     let mut at = 0;
     while at < s.len() {
-        at += show_first(&s[at..]);
+        at += show_first(rt, &s[at..]);
     }
 }
 
 // Shows the case at the start of s, and tells where it ends.
-fn show_first(s: &[u8]) -> usize
+fn show_first(rt: &impl Print, s: &[u8]) -> usize
     requires { 0 < length s.now }
     ensures result_nonzero { 0 < result }
     ensures upper_bound { result ≤ length s.now }
@@ -44,24 +45,24 @@ fn show_first(s: &[u8]) -> usize
     let line = c.line;
     let bytes = c.bytes;
     let end = c.end;
-    show(c.sort, &s[label..line], &s[bytes..end]);
+    show(rt, c.sort, &s[label..line], &s[bytes..end]);
     end
 }
 
 // Writes a case's label and its answer: that of a stream, or of a record by itself.
-fn show(sort: u8, label: &[u8], s: &[u8]) {
+fn show(rt: &impl Print, sort: u8, label: &[u8], s: &[u8]) {
     if sort == b's' {
-        print_label(label);
-        answer(s);
+        print_label(rt, label);
+        answer(rt, s);
     }
     if sort == b'r' {
-        print_label(label);
-        read(s);
+        print_label(rt, label);
+        read(rt, s);
     }
 }
 
-fn print_label(label: &[u8]) {
-    print(b"case ");
-    print(label);
-    print(b"\n");
+fn print_label(rt: &impl Print, label: &[u8]) {
+    print(rt, b"case ");
+    print(rt, label);
+    print(rt, b"\n");
 }

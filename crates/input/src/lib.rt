@@ -4,7 +4,7 @@
 
 ghost use Rattle.io.specs.Counts.{IsPrefixLen};
 
-use libc::STDIN_FILENO;
+use std::io::Read;
 
 // How many bytes of the input were read, and whether a read failed before its end.
 #[derive(Clone, Copy)]
@@ -16,12 +16,12 @@ pub struct Input {
 // Reads until the buffer is full, the input ends or a read fails, however few bytes each read brings.
 // Laws: it is what its callers need to lend on the bytes that were read.
 // Ruled out: of a buffer of two bytes: 3; of an empty buffer: 1.
-pub fn read_all(bytes: &mut [u8]) -> Input
+pub fn read_all<R: Read>(reader: &mut R, bytes: &mut [u8]) -> Input
     ensures { IsPrefixLen result.count bytes.new }
 {
     let mut n = 0;
     while n < bytes.len() {
-        let x = read_some(&mut bytes[n..]);
+        let x = read_some(reader, &mut bytes[n..]);
         if x.failed {
             return Input {
                 count: 0,
@@ -43,11 +43,17 @@ pub fn read_all(bytes: &mut [u8]) -> Input
 }
 
 // One read, as far as the buffer goes.
-fn read_some(buffer: &mut [u8]) -> Input
+fn read_some<R: Read>(reader: &mut R, buffer: &mut [u8]) -> Input
     ensures { IsPrefixLen result.count buffer.new }
 {
-    let got = libc::read(STDIN_FILENO, buffer);
-    let count = io::count(got, buffer);
-    let failed = got < 0;
-    Input { count, failed }
+    match reader.read(buffer) {
+        Ok(count) => Input {
+            count,
+            failed: false,
+        },
+        Err(_) => Input {
+            count: 0,
+            failed: true,
+        },
+    }
 }
