@@ -83,7 +83,7 @@ fn has_room(n: usize, west: usize, east: usize, lo: usize, hi: usize) -> bool
 // It takes 512 arcs at most, two arrays as long as each other for the arcs, and two for one piece more than
 // arcs: where there is no such room it answers 0 and alters nothing. What is found is determined; the order
 // that the arcs are left in, and what lies behind the pieces, is not: all four arrays are for working in.
-// Laws: Laws.found-exactly, Laws.at-most, Laws.two-kinds.
+// Laws: Laws.found-exactly, Laws.at_most, Laws.two-kinds.
 // Ruled out: of FULL, [1, -1] and [2, 0.5]: one piece; of [0, 1] and [2, 1]: [2, 1], which x does
 // not hold.
 pub fn meet(

@@ -157,7 +157,7 @@ fn text_of(b: Bounds) -> Text
 
 // Writes a box at the start of out: 9 for a box that reading cannot give, then 6 where out is too short.
 // A refused writing writes nothing, and the bytes after the text stay.
-// Laws: bbox.Round.round-trip, bbox.Round.fewest, bbox.Round.same-text; Written.array-written,
+// Laws: bbox.Round.round_trip, bbox.Round.fewest, bbox.Round.same_text; Written.array_written,
 // Written.minus-below, Written.no-minus-zero; Answers.box-stands, Answers.box-unaltered,
 // Answers.enough; Room.longest.
 // Ruled out: of [0, 0, 0, 0]: `[-0,0,0,0]`; of west 0.5: `[0.50,..`; of west 0.0000001: `[0,..`; of

@@ -15,7 +15,7 @@ const INFINITY: u64 = 0x7FF0_0000_0000_0000;
 const SIGN: u64 = 0x8000_0000_0000_0000;
 
 // The double of a bit pattern. Zero over zero is the NaN.
-// Laws: RoundTrip.written-read, RoundTrip.read-written.
+// Laws: RoundTrip.written_read, RoundTrip.read-written.
 // Ruled out: of 3FF0000000000000: 2; of 7FF0000000000001: infinity, since it is a NaN's.
 pub fn from_pattern(bits: u64) -> f64
     ensures { result ≡ of_pattern bits }
@@ -27,7 +27,7 @@ pub fn from_pattern(bits: u64) -> f64
 }
 
 // The bit pattern of a double. Only the NaN differs from itself.
-// Laws: RoundTrip.read-written, RoundTrip.written-read.
+// Laws: RoundTrip.read-written, RoundTrip.written_read.
 // Ruled out: of 1: 3FF0000000000001; of the NaN: 7FFC000000000000.
 pub fn pattern(x: f64) -> u64
     ensures { result ≡ to_pattern x }

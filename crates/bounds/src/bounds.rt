@@ -106,7 +106,7 @@ fn is_settled(b: Bounds) -> bool
 }
 
 // Whether reading can give a box.
-// Laws: Boxes.placed-given, Boxes.settled-stays; bbox.Given.reads-given; bbox.Round.round-trip (together:
+// Laws: Boxes.placed-given, Boxes.settled-stays; bbox.Given.reads-given; bbox.Round.round_trip (together:
 // just the boxes that reading gives).
 // Ruled out: of [-180, 0, 180, 0]: no; of [0, 0, -180, 0]: yes; of [0, 1, 0, 0]: yes.
 pub fn can_give(b: Bounds) -> bool

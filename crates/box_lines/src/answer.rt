@@ -74,9 +74,9 @@ fn listed(list: &[i64], out: &mut [u8]) -> Written
 
 // The text that goes out for the lines of s, to the start of out. No line at all is refused: the command
 // before may have failed, and the common region of no boxes would be the whole globe.
-// Laws: Laws.no-line, Laws.no-text, Laws.lines-given, Laws.some-line, Laws.first-fault,
-// Laws.too-many, Laws.answer-boxes; Again.again; Common.common-boxes, Common.all-given,
-// Common.only-these, Common.at-most, Common.any-order.
+// Laws: Laws.no_line, Laws.no_text, Laws.lines-given, Laws.some-line, Laws.first-fault,
+// Laws.too_many, Laws.answer-boxes; Again.again; Common.common-boxes, Common.all-given,
+// Common.only-these, Common.at_most, Common.any_order.
 // Ruled out: of no bytes: `[-180,-90,180,90]`, or nothing, or `refused 8 at line 1` (it is
 // `refused 8`); of two lines of which the second is bad: `refused 8 at line 1`, or `refused 8 at 1`
 // (it is `refused 8 at line 2`); of an edge 0.1: 0.0999999.

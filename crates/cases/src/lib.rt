@@ -64,7 +64,7 @@ fn no_case(n: usize) -> Case
 
 // The case that s starts with. Its parts lie in s one after the other. It has at least one byte where s has
 // one, so that a caller who goes on behind it comes to the end.
-// Laws: Laws.read-back, Laws.parts-back, Laws.cut-short, Laws.whole-case, Laws.lies.
+// Laws: Laws.read_back, Laws.parts-back, Laws.cut_short, Laws.whole-case, Laws.lies.
 // Ruled out: of `s 01 000002 a`, a newline and one byte: a case of sort s (it is cut); of `s 01 000000 a` and a
 // newline: an end at 13 (it is 14).
 pub fn first(s: &[u8]) -> Case

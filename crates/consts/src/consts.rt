@@ -70,7 +70,7 @@ fn reduced(x: f64) -> f64
 
 // x minus the whole multiple of 2 PI nearest to it, the even multiple where two are equally near:
 // exact, from -PI to PI, and never negative zero. A NaN, or an x of size over 4 PI, is refused.
-// Laws: Remainders.answer-is, Remainders.one-answer, Remainders.only-remainder, Turns.stays-in-range.
+// Laws: Remainders.answer-is, Remainders.one_answer, Remainders.only-remainder, Turns.stays-in-range.
 // Ruled out: of 3 PI, a tie: PI (it is -PI); of 2 PI: 2 PI; of 402921FB54442D19, above 4 PI:
 // 3CE0000000000000.
 pub fn remainder(x: f64) -> Number

@@ -30,7 +30,7 @@ pub fn zero_read(x: f64) -> f64
 
 // A point, a margin or an error: x with zero read, under 0 where it is in reach and under the
 // refusal given where it is not.
-// Laws: Readings.read-in, Readings.read-out.
+// Laws: Readings.read-in, Readings.read_out.
 // Ruled out: of 1, with 3 for a bad number: 1 under 3; of the NaN, with 3: under 0.
 pub fn read_number(x: f64, refusal: u8) -> Number
     ensures { result ≡ read_number x refusal }

@@ -47,7 +47,7 @@ fn rect_of(b: Bounds) -> Rect
 }
 
 // The rectangle of a box that reading can give; any other is refused.
-// Laws: Boxes.is-valid, Boxes.not-empty, Boxes.latitudes, Boxes.seam, Boxes.read-back,
+// Laws: Boxes.is-valid, Boxes.not-empty, Boxes.latitudes, Boxes.seam, Boxes.read_back,
 // Boxes.same-box, Boxes.refused.
 // Ruled out: of [180, 0, 180, 1]: EMPTY longitudes; of [0, 0, -180, 0]: a rectangle, under 0.
 pub fn to_rect(b: Bounds) -> Answer

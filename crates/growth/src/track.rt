@@ -32,7 +32,7 @@ fn kept(start: Rect, accepted: usize, after: Rect) -> Rect
 // most 4,096. A call is growth by the point; a refused one changes nothing, and the next is made.
 // Laws: Laws.ran-are, Laws.ran-number, Laws.ran-list-refused, Laws.ran-start-refused, Laws.ran-kept,
 // Laws.ran-plain, RunningBox.once-in, RunningBox.point-held, RunningBox.edges-from,
-// RunningBox.left-out, RunningBox.run-append.
+// RunningBox.left_out, RunningBox.run-append.
 // Ruled out: of [0, 1] by [0, 1] and the points 0.5, 2, then 1, 4, then 1, -0.5: [0, 1] by [0, 2],
 // stopped at the bad point; [0, 1] by [-0.5, 1], without what came before it; 3 accepted (they are 2,
 // and [0, 1] by [-0.5, 2]); of [-0, 1] by [-0, 1] and the point 1, 4: [0, 1] by [0, 1] (its bits are

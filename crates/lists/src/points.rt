@@ -8,7 +8,7 @@ use s2::latlng::LatLng;
 use s2::reading::{Pair, read_point};
 
 // The point that starts at the number i.
-// Laws: PointLists.point-entry, PointLists.past-end.
+// Laws: PointLists.point-entry, PointLists.past_end.
 // Ruled out: of [5, 6] and 0: longitude 5; of [5] and 0: longitude 0 (it is the NaN).
 pub fn point_at(list: &[f64], i: usize) -> LatLng
     ensures { result ≡ point_at list.now i }

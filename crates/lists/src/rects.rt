@@ -48,7 +48,7 @@ fn beyond(list: &[f64], i: usize) -> Rect
 }
 
 // The rectangle that starts at the number i.
-// Laws: RectLists.rect-entry, RectLists.past-end.
+// Laws: RectLists.rect-entry, RectLists.past_end.
 // Ruled out: of [0, 1, 2, 3] and 0: [0, 2] by [1, 3]; of three numbers and 0: a fourth that is no
 // NaN.
 pub fn rect_at(list: &[f64], i: usize) -> Rect

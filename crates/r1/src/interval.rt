@@ -333,7 +333,7 @@ impl Interval {
     // Returns the Hausdorff distance to the given interval. For two intervals x and y, this distance
     // is defined as h(x, y) = max_{p in x} min_{q in y} d(p, q).
     // A refused one is a distance of 0.
-    // Laws: Distances.hausdorff-is, Distances.distance-is, Distances.one-hausdorff.
+    // Laws: Distances.hausdorff-is, Distances.distance_is, Distances.one-hausdorff.
     // Ruled out: of [0, 1] to the empty [1, 0]: a distance, infinity or any other; of [0, 3] to [0,
     // 1]: 0.
     pub fn directed_hausdorff_distance(self, other: Interval) -> Hausdorff
@@ -356,7 +356,7 @@ impl Interval {
 
     // Returns the interval expanded so that it contains the given point. A bad point changes
     // nothing: the interval comes back as it was handed in.
-    // Laws: Places.add-holds; Ends.add-ends.
+    // Laws: Places.add_holds; Ends.add-ends.
     // Ruled out: of [0, 1] and 3: [0, 1]; of the empty [1, 0] and 3: [1, 3].
     pub fn add(self, p: f64) -> Answer
         ensures { result ≡ add self p }

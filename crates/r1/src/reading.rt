@@ -30,7 +30,7 @@ pub struct With {
 }
 
 // Reads an interval: every operation on one comes through here.
-// Laws: Readings.one-in, Readings.holds-plain, Promises.one-interval.
+// Laws: Readings.one_in, Readings.holds_plain, Promises.one-interval.
 // Ruled out: of [-0, 1]: [-0, 1]; of [NaN, 1]: under 0.
 pub fn read_one(i: Interval) -> One
     ensures { result ≡ read_one i }
@@ -52,7 +52,7 @@ pub fn read_one(i: Interval) -> One
 }
 
 // Reads two intervals, the left one first.
-// Laws: Readings.two-in, Promises.two-intervals.
+// Laws: Readings.two_in, Promises.two-intervals.
 // Ruled out: of [0, 1] and [2, 3]: the second on the left; of [0, 1] and [NaN, 1]: under 0.
 pub fn read_two(i: Interval, o: Interval) -> Two
     ensures { result ≡ read_two i o }
@@ -70,7 +70,7 @@ pub fn read_two(i: Interval, o: Interval) -> Two
 }
 
 // Reads an interval, then a number, which out of reach has the refusal given.
-// Laws: Readings.with-in, Promises.interval-and-point, Promises.interval-and-margin.
+// Laws: Readings.with_in, Promises.interval-and-point, Promises.interval-and-margin.
 // Ruled out: of [0, 1] and the NaN, with 3 for a bad number: under 1; of [NaN, 1] and the NaN, with
 // 3: under 3.
 pub fn read_with(i: Interval, x: f64, refusal: u8) -> With

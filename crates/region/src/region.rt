@@ -148,7 +148,7 @@ fn entry_in(list: &[f64], refusal: u8) -> usize
 }
 
 // The common region of the rectangles in `list`, to the start of `out`.
-// Laws: Laws.listed-exactly, Laws.accepts, Laws.none-listed, Laws.at-most, Laws.unaltered,
+// Laws: Laws.listed-exactly, Laws.accepts, Laws.none-listed, Laws.at_most, Laws.unaltered,
 // Laws.determined; Promises.the-entry, Promises.no-entry.
 // Ruled out: of [-1, 1] and [1, -1]: one piece, [-1, 1], or none; of [2, 1] and [0.5, 0.25]: [2,
 // 0.25] first; of one empty rectangle: one empty piece; a refusal, and a number of the output

@@ -465,7 +465,7 @@ impl Interval {
     // add returns the interval expanded such that it contains the given point "p" (an angle in the
     // range [-Pi, Pi]), to the side that is nearer by the rounded distance (F16). A bad point changes
     // nothing: the interval comes back as it was handed in.
-    // Laws: Places.add-holds, Places.add-valid, Refusals.add-refused; Ends.add-ends.
+    // Laws: Places.add_holds, Places.add-valid, Refusals.add-refused; Ends.add-ends.
     // Ruled out: of [0, 1] and 2: [2, 1]; of EMPTY and -PI: [-PI, -PI].
     pub fn add(self, p: f64) -> Answer
         ensures { result ≡ add self p }

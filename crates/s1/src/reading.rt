@@ -57,7 +57,7 @@ fn refusal_of(i: Interval) -> u8
 }
 
 // Reads an interval: every operation on one comes through here.
-// Laws: Limits.one-in, Limits.holds-plain; Readings.valid-reach; Promises.refusals-alone.
+// Laws: Limits.one_in, Limits.holds_plain; Readings.valid-reach; Promises.refusals-alone.
 // Ruled out: of [-PI, 0]: under 0; of [0, NaN]: under 22.
 pub fn read_one(i: Interval) -> One
     ensures { result ≡ read_one i }
@@ -103,7 +103,7 @@ pub fn read_ends(lo: f64, hi: f64) -> One
 }
 
 // Reads two intervals, the left one first.
-// Laws: Limits.two-in; Promises.refusals-two.
+// Laws: Limits.two_in; Promises.refusals-two.
 // Ruled out: of [0, 1] and [2, 3]: the second on the left; of [-PI, 0] and [NaN, 0]: under 1 (the
 // left one decides: 22).
 pub fn read_two(i: Interval, o: Interval) -> Two

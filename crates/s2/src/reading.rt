@@ -138,8 +138,8 @@ fn two_refusal(r: Rect, o: Rect) -> u8
 }
 
 // Reads a rectangle: every operation on one comes through here, or through the next.
-// Laws: Readings.one-in, Readings.one-out, Readings.one-not-valid, Readings.valid-reach;
-// Places.from-read, Places.to-read.
+// Laws: Readings.one_in, Readings.one_out, Readings.one-not-valid, Readings.valid-reach;
+// Places.from-read, Places.to_read.
 // Ruled out: of [0, 2] by {0}: under 0; of [0, DF40000000000000] by EMPTY: under
 // 23 (it is 1); of [0, 2] by [-PI, 0]: under 22 (it is 21); of [1, 0] by [-PI, 0]: under 23 (it is 22).
 pub fn read_one(r: Rect) -> One
@@ -151,7 +151,7 @@ pub fn read_one(r: Rect) -> One
 }
 
 // Reads two rectangles, the left one first.
-// Laws: Readings.two-in, Promises.both-refused.
+// Laws: Readings.two_in, Promises.both-refused.
 // Ruled out: of [0, 1] by {0} and [0, 1] by {1}: the second on the left; of [0, 2] by {0} and [NaN,
 // 1] by {0}: under 1 (the left one decides: 21).
 pub fn read_two(r: Rect, o: Rect) -> Two

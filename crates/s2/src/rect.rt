@@ -151,7 +151,7 @@ impl Rect {
 
     // is_valid reports whether the rectangle is valid. One that is not is refused, with no beside the
     // number.
-    // Laws: Readings.one-in, Readings.one-out, Readings.one-not-valid.
+    // Laws: Readings.one_in, Readings.one_out, Readings.one-not-valid.
     // Ruled out: of [0, 2] by {0}: yes; of [0, BFF921FB54442D19] by EMPTY: no.
     pub fn is_valid(self) -> YesNo
         ensures { result ≡ is_valid self }
@@ -431,7 +431,7 @@ impl Rect {
 
     // Returns the rectangle expanded so that it contains the given point. A bad point changes nothing:
     // the rectangle comes back as it was handed in.
-    // Laws: Places.add-holds, Places.add-refused; Numbers.add-edges; Valid.add-valid;
+    // Laws: Places.add_holds, Places.add-refused; Numbers.add-edges; Valid.add-valid;
     // Differences.add-start-refused.
     // Ruled out: of [0, 1] by [0, 1] and the point 0, 2: the start; of the standard empty and the
     // point 0, -PI: {0} by [-PI, -PI].

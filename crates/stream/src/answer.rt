@@ -36,8 +36,8 @@ fn write_fault(refusal: u8, entry: usize, out: &mut [u8]) -> Written
 }
 
 // The text that goes out for the stream s, to the start of `out`.
-// Laws: Every.every-answer, Every.one-answer; Settled.settled; Laws.common-answer, Laws.stream-of,
-// Laws.first-fault, Laws.one-too-many, Laws.no-record.
+// Laws: Every.every-answer, Every.one_answer; Settled.settled; Laws.common-answer, Laws.stream-of,
+// Laws.first-fault, Laws.one-too-many, Laws.no_record.
 // Ruled out: of no bytes: `pieces 0` (it is the full rectangle, once); of 513 whole records with
 // right marks: the text of the first 512; of 513 records of which the third has a NaN: `refused 5`
 // (the first fault decides: `refused 1 at 2`); of a good record and one of [0, 2] by {0}: `refused 21`,

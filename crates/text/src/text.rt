@@ -161,7 +161,7 @@ fn write_whole(list: &[f64], out: &mut [u8]) -> Written
 }
 
 // The pieces in `list`, four numbers each, to the start of `out`. A refusal writes nothing.
-// Laws: Laws.stands, Laws.unaltered, Laws.enough; Digits.number-reads, Digits.same-number,
+// Laws: Laws.stands, Laws.unaltered, Laws.enough; Digits.number-reads, Digits.same_number,
 // Digits.decimal-reads; Examples.two-pieces.
 // Ruled out: of two pieces: `pieces 1` and their lines; of two pieces: digits in lower case; of
 // five numbers: one line, under 0.

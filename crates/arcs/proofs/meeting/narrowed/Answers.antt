@@ -1,4 +1,4 @@
--- `arcs::arcs::narrowed`: the definition's, by what `max` and `min` answer. Assumes nothing.
+-- `arcs::meeting::narrowed`: the definition's, by what `max` and `min` answer. Assumes nothing.
 use Rattle.arcs.specs.Kinds.{narrowed}
 use borrow.Author.Rules.{rules}
 use Rattle.arcs.proofs.meeting.narrowed.Goals as goal

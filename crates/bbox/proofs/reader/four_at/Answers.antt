@@ -1,5 +1,4 @@
--- `bbox::reader::four_at`: one element after the other, each of which is read or ends the reading. A place of the walk is named
--- by what is known there: the first to the fourth element, and the number that each gave. Assumes nothing.
+-- `bbox::reader::four_at`: one element after the other, each of which is read or ends the reading. Assumes nothing.
 use native.Mathlib.Omega.{arith}
 use borrow.Author.Tests.{eq-eqb, ne_eqb, lt-ltb, le-ltb}
 use borrow.Author.Rules.{rules}

@@ -1,4 +1,4 @@
--- `consts::reading::read-number`: at each return the answer is the definition's, under the tests that led there. Assumes nothing.
+-- `consts::reading::read_number`: at each return the answer is the definition's, under the tests that led there. Assumes nothing.
 use Rattle.consts.specs.Reading.{read_number}
 use Rattle.consts.proofs.reading.read_number.Goals as goal
 

@@ -1,4 +1,4 @@
--- `lists::rects::first_refused`: the loop keeps that the entries so far are accepted; what a turn comes to is told by the crate entries (First.antt). Assumes nothing.
+-- `lists::rects::first_refused`: the loop keeps that the entries so far are accepted; what a turn comes to is told by the crate entries (FirstLaws.antt). Assumes nothing.
 use mathlib.Core.Path.{◌≡◌, refl, sym, ap, subst, ◌∙◌}
 use mathlib.Core.List.{List}
 use Prim.Native.Nat.{ℕ, ◌+◌, ◌-◌, ◌*◌, ◌/◌, ◌≤◌, ◌<◌}

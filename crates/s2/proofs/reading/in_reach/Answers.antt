@@ -1,4 +1,4 @@
--- `s2::reading::in-reach`: at each return the answer is the definition's, under the tests that led there. Assumes nothing.
+-- `s2::reading::in_reach`: at each return the answer is the definition's, under the tests that led there. Assumes nothing.
 use Rattle.s2.specs.Reading.{rect_in_reach}
 use Rattle.s2.proofs.reading.in_reach.Goals as goal
 

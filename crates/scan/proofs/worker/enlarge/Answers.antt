@@ -1,6 +1,5 @@
--- `scan::worker::enlarge` meets its contract: a walk of its MIR, by hand. The borrow is opened, the box is copied out and passed to `grow_point`, and its
--- number is tested. Under 0 what it answered is stored and the borrow is closed at that; else nothing is stored and it is closed at what it held.
--- All that the proof knows of `grow_point` is that it meets its contract. Assumes nothing.
+-- `scan::worker::enlarge`: under 0 what `grow_point` answered is stored, and under any other number the box is left as it was; either way the box is
+-- what the call leaves. All that the proof knows of `grow_point` is that it meets its contract. Assumes nothing.
 use mathlib.Core.Path.{◌≡◌, ap, sym, ◌∙◌}
 use Rattle.s2.specs.declared.rect.Answer.{Answer}
 use Rattle.s2.specs.Zone.{at}

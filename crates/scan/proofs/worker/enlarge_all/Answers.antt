@@ -1,5 +1,4 @@
--- `scan::worker::enlarge_all` meets its contract: the walk of `enlarge`, with the list passed on to `grow`; the list stays lent, and what it owns is kept for
--- the return. Assumes nothing.
+-- `scan::worker::enlarge_all`: as `enlarge`, with the list passed on to `grow`. Assumes nothing.
 use mathlib.Core.Path.{◌≡◌, ap, ◌∙◌}
 use Rattle.s2.specs.declared.rect.Answer.{Answer}
 use Rattle.growth.specs.RunningBox.{kept}
