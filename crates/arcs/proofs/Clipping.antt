@@ -21,7 +21,7 @@ use Rattle.arcs.specs.CommonArcs.{every_holds, some_holds, ArcsApart, ArcsUnjoin
 use Rattle.arcs.specs.Clipping.{before, sooner, insert, cut, end_at, clip, whole, step, steps, common}
 use Rattle.arcs.proofs.Tests.{both_ways, off, or_right}
 use Rattle.arcs.proofs.Orders.{IsNum, lo-is, hi-is, at-is, trans-at, total-at, self-at, pass-at, same_at, along-at}
-use Rattle.arcs.proofs.Pieces.{full-full, full-plain, filled, lo-place, own-lo, every-at, every_of, some_of, some_at, IsPiece, made, piece-valid, piece-live, piece-part, piece-sound, piece-apart, piece-unjoined, Has, all_insert, keep-insert, has-insert, rise-insert, one_more, valids, pairs_of, starts, all_full, Nearest, none-part, nearest, start_of, reached, of-full}
+use Rattle.arcs.proofs.Pieces.{full-full, filled, lo-place, own-lo, every-at, every_of, some_of, some_at, IsPiece, made, piece-valid, piece-live, piece-part, piece-sound, piece-apart, piece-unjoined, Has, all_insert, keep-insert, has-insert, rise-insert, one_more, valids, pairs_of, starts, all_full, Nearest, none-part, nearest, start_of, reached, of-full}
 
 -- ---- the pieces so far, none of them FULL: what they are, and that each start is among them
 pub record Kept (arcs found : List Interval) : Type 0 where

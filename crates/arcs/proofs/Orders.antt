@@ -5,7 +5,7 @@ use mathlib.Core.Bool.{Bool, true, false, not, ◌&&◌, ◌||◌, cond, false�
 use mathlib.Core.List.{List, [], ◌∷◌}
 use Prim.Native.Nat.{ℕ}
 use lib.Dec.{leb, ltb, eqb}
-use lib.Ieee.{Float, binary64, lt, le, eq, fits, of_bits}
+use lib.Ieee.{Float, binary64, lt, le, eq, fits}
 use Rattle.order.specs.Key.{Num}
 use Rattle.order.proofs.Rank.{In, here, there, rank, all, both, imp}
 use Rattle.order.proofs.Ranks.{rank_lt, lt-rank, le-rank, eq-rank, all-at, both_at, imp-at, and_l, and_r, and-of}

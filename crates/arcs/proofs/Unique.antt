@@ -15,7 +15,7 @@ use Rattle.s1.specs.Places.{Place, Valid, holds, Inside, Meets}
 use Rattle.s1.proofs.Held.{lo-num, hi-num, inside-same}
 use Rattle.entries.specs.Lists.{All, Mem}
 use Rattle.entries.proofs.Entries.{all-at, pair-cases, all_map}
-use Rattle.arcs.specs.CommonArcs.{every_holds, ArcsApart, CommonArc, ArcsUnjoined, PlainArc, CommonArcs}
+use Rattle.arcs.specs.CommonArcs.{ArcsApart, CommonArc, ArcsUnjoined, PlainArc, CommonArcs}
 use Rattle.arcs.proofs.Orders.{IsNum, lo-is}
 use Rattle.arcs.proofs.Pieces.{own-hi, some_of, some_at}
 use Rattle.arcs.proofs.Aligned.{Two, aligned}

@@ -10,7 +10,7 @@ use lib.ListN.{length}
 use lib.IntN.{ℤ}
 use lib.Ieee.{Float}
 use Rattle.order.proofs.Ranks.{and-of}
-use Rattle.consts.specs.Refusal.{number, accepted, first_refusal}
+use Rattle.consts.specs.Refusal.{number, accepted}
 use Rattle.s2.specs.declared.rect.Rect.{Rect}
 use Rattle.s2.specs.declared.reading.One.{One}
 use Rattle.s2.specs.Places.{Valid}

@@ -1,6 +1,6 @@
 -- An input that is read item by item, in order, where the first fault decides. The form of the input says how one item is read; what the whole input comes to
 -- is said here, once for every form. Definitions only; what they mean is in proofs/Inputs.antt.
-use Rattle.std.specs.Prelude.{List, [], ◌∷◌, ◌++◌, ℕ, zero, suc, ◌+◌}
+use Rattle.std.specs.Prelude.{List, [], ◌∷◌, ◌++◌, ℕ, zero, suc}
 use Rattle.consts.specs.Refusal.{given}
 
 -- an input of letters B that holds items A

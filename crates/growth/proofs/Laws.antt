@@ -17,7 +17,7 @@ use Rattle.s2.specs.declared.rect.Answer.{Answer}
 use Rattle.s2.specs.declared.reading.One.{One}
 use Rattle.s2.specs.Zone.{at, is_lat_lng}
 use Rattle.s2.specs.Reading.{as_read, NoMinusRect}
-use Rattle.s2.specs.Answers.{rect_answer, empty_under, rectangle, add}
+use Rattle.s2.specs.Answers.{rect_answer, empty_under, add}
 use Rattle.s2.specs.Refusals.{RectReason}
 use Rattle.s2.specs.Places.{place_of, Valid, ValidPoint, holds, Inside, Doubles, DoublePoint}
 use Rattle.s2.proofs.Readings.{one_in, valid-read, holds_read}

@@ -1,12 +1,12 @@
 -- The answer and what is left in the output, by what was found in the list. Assumes nothing.
 use mathlib.Core.Path.{◌≡◌, refl, sym, ap, ◌∙◌}
-use mathlib.Core.Bool.{Bool, true, false, cond, ◌&&◌, and-false}
-use mathlib.Core.List.{List, [], ◌∷◌, ◌++◌}
+use mathlib.Core.Bool.{Bool, true, false}
+use mathlib.Core.List.{List, [], ◌∷◌}
 use Prim.Native.Nat.{ℕ, suc, ◌*◌, ◌%◌, ◌≤◌, ◌<◌}
 use native.Mathlib.Omega.{arith}
-use borrow.Author.Tests.{le-leb, lt-leb, leb-true, leb-false, eq-eqb, ne_eqb}
-use lib.ListN.{length, drop, get_or}
-use lib.Dec.{T, leb, eqb}
+use borrow.Author.Tests.{le-leb, lt-leb, leb-true, leb-false, ne_eqb}
+use lib.ListN.{length, get_or}
+use lib.Dec.{T, leb}
 use lib.Ieee.{Float, nan, binary64, fits}
 use Rattle.consts.specs.Refusal.{number, accepted, bad_list, no_room, first_refusal}
 use Rattle.r1.specs.declared.interval.Interval.{Interval as Line}

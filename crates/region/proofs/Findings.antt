@@ -4,7 +4,7 @@ use mathlib.Core.Path.{◌≡◌, sym, ap, ◌∙◌, subst}
 use mathlib.Core.Bool.{Bool, true, false, cond}
 use mathlib.Core.List.{List, [], ◌∷◌}
 use Prim.Native.Nat.{ℕ}
-use lib.ListN.{length, take, get_or}
+use lib.ListN.{take, get_or}
 use lib.Dec.{T}
 use lib.Ieee.{Float, nan, binary64, fits}
 use Rattle.r1.specs.declared.interval.Interval.{Interval as Line}
@@ -15,13 +15,11 @@ use Rattle.lists.specs.Rects.{rects_of, as_read_all}
 use Rattle.lists.proofs.Doubles.{all_valid}
 use Rattle.arcs.specs.CommonArcs.{AreRead}
 use Rattle.arcs.specs.Clipping.{common}
-use Rattle.arcs.specs.Kinds.{risen, crossing, met}
-use Rattle.sort.specs.Arrays.{zip}
-use Rattle.arcs.specs.Arrays.{room, Met}
+use Rattle.arcs.specs.Kinds.{risen, met}
 use Rattle.arcs.proofs.Rising.{kinds-read}
 use Rattle.arcs.proofs.Laws.{two-kinds}
 use Rattle.region.specs.declared.reading.Arcs.{Arcs}
-use Rattle.region.specs.Region.{lngs, band, across, region}
+use Rattle.region.specs.Region.{lngs, across, region}
 use Rattle.region.specs.Answers.{pieces_of}
 use Rattle.region.specs.Inside.{IsArcs}
 use Rattle.region.proofs.Listed.{arcs-read}

@@ -12,7 +12,7 @@ use borrow.Author.Tests.{ne_eqb}
 use lib.ListN.{length}
 use lib.Ieee.{Float}
 use Rattle.order.proofs.Ranks.{and_l, and_r, and-of}
-use Rattle.consts.specs.Refusal.{number, accepted, first_refusal}
+use Rattle.consts.specs.Refusal.{number, accepted}
 use Rattle.r1.specs.declared.interval.Interval.{Interval as Line}
 use Rattle.r1.specs.Line as line
 use Rattle.s1.specs.declared.interval.Interval.{Interval as Circle}

@@ -5,7 +5,7 @@ use mathlib.Core.Path.{◌≡◌, refl, sym, ◌∙◌, subst}
 use mathlib.Core.Bool.{Bool, true, false, false≢true}
 use mathlib.Core.List.{List, [], ◌∷◌}
 use mathlib.Core.Logic.{◌⊎◌, inl, inr}
-use lib.Ieee.{Float, binary64, lt, le, eq, fits}
+use lib.Ieee.{Float, binary64, le, eq, fits}
 use Rattle.order.proofs.Ranks.{and_l, and_r, and-of, or_at, or-of-l, or-of-r}
 use Rattle.order.proofs.Facts.{le_refl, not-lt, antisym}
 use Rattle.consts.proofs.Readings.{plain-same}
@@ -14,9 +14,7 @@ use Rattle.r1.specs.Line as line
 use Rattle.r1.specs.Places.{holds as lat_holds, InReach as LatReach}
 use Rattle.r1.proofs.Readings.{place-num}
 use Rattle.s1.specs.declared.interval.Interval.{Interval as Circle}
-use Rattle.s1.specs.Circle as circle
 use Rattle.s1.specs.Places.{Place as LngPlace, Valid as LngValid, holds as lng_holds, Inside as LngInside}
-use Rattle.s1.proofs.Held.{lo-num, hi-num, inside-same}
 use Rattle.s2.specs.declared.place.Place.{Place}
 use Rattle.s2.specs.declared.rect.Rect.{Rect}
 use Rattle.s2.specs.Zone.{latitude, is_empty}

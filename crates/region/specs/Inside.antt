@@ -1,6 +1,6 @@
 -- What the functions of this crate promise each other. Nothing here needs to be believed: it stands among the definitions only because a contract can cite
 -- nothing else, and what it comes to is what `common_region` promises (specs/Answers.antt), which is proved from it. Definitions only.
-use Rattle.std.specs.Prelude.{◌≡◌, cond, List, ◌++◌, ℕ, ◌+◌, ◌*◌, ◌/◌, ◌%◌, ◌≤◌, ◌<◌, length, take, drop, leb, Float}
+use Rattle.std.specs.Prelude.{◌≡◌, List, ◌++◌, ℕ, ◌+◌, ◌*◌, ◌/◌, ◌%◌, ◌≤◌, ◌<◌, length, take, drop, Float}
 use Rattle.consts.specs.Refusal.{number, accepted, no_room}
 use Rattle.s1.specs.declared.interval.Interval.{Interval}
 use Rattle.s1.specs.Circle.{FULL}

@@ -1,7 +1,7 @@
 -- How the operands of a circle interval's operations are read: in document 01's order, the intervals from left to right, each with its zeros read,
 -- under 1 where a number is out of reach and under 22 where it is not valid; then points (3), then a margin or an error (4).
 -- Definitions only; the laws are in proofs/Readings.antt.
-use Rattle.std.specs.Prelude.{◌≡◌, Bool, ◌&&◌, cond, Float}
+use Rattle.std.specs.Prelude.{Bool, ◌&&◌, cond, Float}
 use Rattle.std.specs.Float.Ieee.{le}
 use Rattle.consts.specs.declared.answer.Number.{Number}
 use Rattle.consts.specs.Constants.{PI, NEG-PI}

@@ -21,7 +21,7 @@ use Rattle.s2.specs.Zone as zone
 use Rattle.s2.specs.Zone.{is_empty}
 use Rattle.s2.specs.Reading.{as_read}
 use Rattle.s2.specs.Answers.{is_point}
-use Rattle.s2.specs.Places.{place_at, Valid, holds, Single}
+use Rattle.s2.specs.Places.{place_at, Valid, Single}
 use Rattle.s2.proofs.Readings.{lng-nums, pi-nums, lng-place-num, lat-place, one_in, valid-read}
 use Rattle.s2.proofs.Circles.{apart, below, lng-hi}
 use Rattle.s2.proofs.Valid.{range, empty-both}

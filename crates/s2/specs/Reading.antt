@@ -1,7 +1,7 @@
 -- How the operands of a rectangle's operations are read: in document 01's order, the rectangles from left to right, each with its zeros read, under 1
 -- where a number is out of reach and under 21, 22 or 23 where it is not valid; then points (3), then margins, sizes or errors (4).
 -- Definitions only; the laws are in proofs/Readings.antt.
-use Rattle.std.specs.Prelude.{◌≡◌, Bool, ◌&&◌, cond, ℕ}
+use Rattle.std.specs.Prelude.{Bool, ◌&&◌, cond, ℕ}
 use Rattle.consts.specs.Refusal.{number, accepted, out_of_reach, bad_point, bad_margin, first_fault, first_refusal}
 use Rattle.consts.specs.Reading.{in_reach, plain, NoMinus, read_number}
 use Rattle.r1.specs.Reading as latitudes

@@ -1,6 +1,6 @@
 -- What the scan worker leaves in the lent box. A call with a point is a call of the running box, by definition, so that any list of such calls is that box
 -- after them; a list that is accepted is all its points' calls at once. Assumes nothing.
-use mathlib.Core.Path.{◌≡◌, refl, sym, ap, ◌∙◌, subst}
+use mathlib.Core.Path.{◌≡◌, sym, ap, ◌∙◌, subst}
 use mathlib.Core.List.{List, [], ◌∷◌, foldl}
 use borrow.Author.Tests.{eq-eqb, ne_eqb}
 use lib.Ieee.{Float}

@@ -7,7 +7,6 @@ use lib.ListN.{length}
 use Rattle.cases.specs.declared.Case.{Case}
 use Rattle.cases.specs.Cases.{end_of, first_case, Lies}
 use Rattle.cases.proofs.Laws.{lies, cut_short, whole-case}
-use borrow.Author.Rules.{rules}
 use Rattle.cases.proofs.first.Goals as goal
 
 placed : (r : Case) (s : List ℕ) → r ≡ first_case s → (r ≡ first_case s) × Lies r (length s)

@@ -10,7 +10,6 @@ use Rattle.s1.specs.Circle.{is_full, is_empty}
 use Rattle.arcs.specs.Clipping.{whole}
 use Rattle.sort.specs.Arrays.{zip}
 use Rattle.arcs.proofs.Turns.{whole_is, step-full, step-first, step-rest, first_one}
-use borrow.Author.Rules.{rules}
 use Rattle.arcs.proofs.clip.clip_one.Goals as goal
 
 pub returns-then-is_full : goal.returns-then-is_full

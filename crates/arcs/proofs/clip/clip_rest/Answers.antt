@@ -6,7 +6,6 @@ use lib.ListN.{take}
 use Rattle.s1.specs.declared.interval.Interval.{Interval}
 use Rattle.sort.specs.Arrays.{zip}
 use Rattle.arcs.proofs.Turns.{clip-open, clip-cut}
-use borrow.Author.Rules.{rules}
 use Rattle.arcs.proofs.clip.clip_rest.Goals as goal
 
 pub returns-then-is_empty-c : goal.returns-then-is_empty-c

@@ -1,12 +1,7 @@
 -- `arcs::clip::clip_while`: the pieces so far, clipped by the arcs that are left, are those of all arcs. Assumes nothing.
-use mathlib.Core.Path.{◌≡◌, refl, sym, ◌∙◌}
-use Prim.Native.Nat.{◌+◌, ◌-◌, ◌≤◌}
+use mathlib.Core.Path.{refl, sym, ◌∙◌}
 use native.Mathlib.Omega.{arith}
-use lib.ListN.{length, drop, take}
-use Rattle.arcs.specs.Clipping.{steps}
-use Rattle.sort.specs.Arrays.{zip}
 use Rattle.arcs.proofs.Turns.{clipped-turn}
-use borrow.Author.Rules.{rules}
 use Rattle.arcs.proofs.clip.clip_while.Goals as goal
 
 pub loop-k-init : goal.loop-k-init

@@ -3,17 +3,16 @@
 use mathlib.Core.Path.{◌≡◌, refl, sym, ap, ◌∙◌}
 use mathlib.Core.Bool.{false, ◌||◌}
 use mathlib.Core.List.{List, ◌++◌}
-use Prim.Native.Nat.{ℕ, ◌+◌, ◌-◌, ◌≤◌, ◌<◌}
+use Prim.Native.Nat.{ℕ, ◌+◌, ◌≤◌, ◌<◌}
 use native.Mathlib.Omega.{arith}
 use lib.ListN.{length, drop, take, get_or, set, length-set}
 use lib.Ieee.{nan}
 use Rattle.s1.specs.declared.interval.Interval.{Interval}
 use Rattle.arcs.specs.CommonArcs.{some_holds}
-use Rattle.arcs.specs.Clipping.{cut, end_at, sooner}
+use Rattle.arcs.specs.Clipping.{cut, end_at}
 use Rattle.sort.specs.Arrays.{zip}
 use Rattle.sort.proofs.Arrays.{zip_length}
 use Rattle.arcs.proofs.Turns.{cut-turn, open_turn, end-turn, past-few, cut-end, open-end, end-end}
-use borrow.Author.Rules.{rules}
 use Rattle.arcs.proofs.clip.cut_all.Goals as goal
 
 pub loop-k-init : goal.loop-k-init

@@ -1,19 +1,13 @@
 -- `arcs::clip::cut_all`: the loop keeps that the pieces written so far, with the cut of those still to come, are the cut of all; and
 -- likewise the test and the end. A turn is in proofs/Turns.antt. Assumes nothing.
-use mathlib.Core.Path.{◌≡◌, refl, sym, ap, ◌∙◌}
+use mathlib.Core.Path.{◌≡◌}
 use mathlib.Core.Bool.{false, ◌||◌}
-use mathlib.Core.List.{List, ◌++◌}
-use Prim.Native.Nat.{ℕ, ◌+◌, ◌-◌, ◌≤◌, ◌<◌}
-use native.Mathlib.Omega.{arith}
-use lib.ListN.{length, drop, take, get_or, set, length-set}
-use lib.Ieee.{nan}
-use Rattle.s1.specs.declared.interval.Interval.{Interval}
+use mathlib.Core.List.{◌++◌}
+use Prim.Native.Nat.{◌-◌, ◌≤◌}
+use lib.ListN.{length, drop, take}
 use Rattle.arcs.specs.CommonArcs.{some_holds}
-use Rattle.arcs.specs.Clipping.{cut, end_at, sooner}
+use Rattle.arcs.specs.Clipping.{cut, end_at}
 use Rattle.sort.specs.Arrays.{zip}
-use Rattle.sort.proofs.Arrays.{zip_length}
-use Rattle.arcs.proofs.Turns.{cut-turn, open_turn, end-turn, past-few, cut-end, open-end, end-end}
-use borrow.Author.Rules.{rules}
 use Rattle.arcs.proofs.clip.cut_all.Given as goal
 
 abbrev pub invariant-loop-k : goal.invariant-loop-k

@@ -1,6 +1,5 @@
 -- `arcs::clip::end_of`: at each return the answer is the definition's, under the test that led there. Assumes nothing.
 use mathlib.Core.Path.{sym}
-use borrow.Author.Rules.{rules}
 use Rattle.arcs.proofs.clip.end_of.Goals as goal
 
 pub returns-then-fast_contains : goal.returns-then-fast_contains

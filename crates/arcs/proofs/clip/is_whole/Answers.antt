@@ -1,5 +1,4 @@
 -- `arcs::clip::is_whole`: the answer is the definition's, by that of `is_full`. Assumes nothing.
-use borrow.Author.Rules.{rules}
 use Rattle.arcs.proofs.clip.is_whole.Goals as goal
 
 pub returns : goal.returns

@@ -1,5 +1,4 @@
 -- `arcs::clip::past`: at each return the answer is the definition's, under the test that led there. Assumes nothing.
-use borrow.Author.Rules.{rules}
 use Rattle.arcs.proofs.clip.past.Goals as goal
 
 pub returns-then-keep : goal.returns-then-keep

@@ -1,18 +1,12 @@
 -- `arcs::clip::put`: the loop keeps that the pieces before the place at hand, with what is still to be put among the rest, are the pieces
 -- with the new one in its place. A turn is in proofs/Insertion.antt, and in two arrays in proofs/Turns.antt. Assumes nothing.
-use mathlib.Core.Path.{◌≡◌, refl, sym, ap, ◌∙◌}
-use mathlib.Core.List.{List, ◌++◌}
-use mathlib.Core.Logic.{⊎_elim}
-use Prim.Native.Nat.{ℕ, ◌-◌, ◌≤◌, ◌<◌}
-use native.Mathlib.Omega.{arith}
-use lib.ListN.{length, drop, take, length-set}
-use Rattle.s1.specs.declared.interval.Interval.{Interval}
+use mathlib.Core.Path.{◌≡◌}
+use mathlib.Core.List.{◌++◌}
+use Prim.Native.Nat.{◌-◌, ◌≤◌, ◌<◌}
+use lib.ListN.{length, drop, take}
 use Rattle.arcs.specs.Clipping.{insert}
 use Rattle.sort.specs.Arrays.{zip}
 use Rattle.arcs.proofs.Insertion.{walk}
-use Rattle.arcs.proofs.Tests.{off, on}
-use Rattle.arcs.proofs.Turns.{put-move, put-past, put_same, put-end}
-use borrow.Author.Rules.{rules}
 use Rattle.arcs.proofs.clip.put.Given as goal
 
 abbrev pub invariant-loop-i : goal.invariant-loop-i

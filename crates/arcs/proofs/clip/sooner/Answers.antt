@@ -1,7 +1,6 @@
 -- `arcs::clip::sooner`: at each return the answer is the definition's, under the test that led there. Assumes nothing.
 use mathlib.Core.Path.{sym}
 use Rattle.arcs.specs.Clipping.{sooner}
-use borrow.Author.Rules.{rules}
 use Rattle.arcs.proofs.clip.sooner.Goals as goal
 
 pub returns-then-is_before : goal.returns-then-is_before

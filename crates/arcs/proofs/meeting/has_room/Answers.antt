@@ -1,5 +1,4 @@
 -- `arcs::meeting::has_room`: the definition's test, whose first part was made before. Assumes nothing.
-use borrow.Author.Rules.{rules}
 use borrow.Author.Tests.{le-leb, lt-leb}
 use Rattle.arcs.specs.Arrays.{room}
 use Rattle.arcs.proofs.meeting.has_room.Goals as goal

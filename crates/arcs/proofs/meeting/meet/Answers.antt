@@ -11,10 +11,8 @@ use Rattle.s1.specs.declared.interval.Interval.{Interval}
 use Rattle.arcs.specs.Clipping.{common}
 use Rattle.arcs.specs.Kinds.{rises, met}
 use Rattle.sort.specs.Arrays.{zip}
-use Rattle.arcs.specs.Arrays.{Met}
 use Rattle.arcs.proofs.Turns.{room_of}
 use Rattle.arcs.proofs.Rising.{left-common}
-use borrow.Author.Rules.{rules}
 use Rattle.arcs.proofs.meeting.meet.Goals as goal
 
 -- ---- what is met, by whether x rises

@@ -4,14 +4,13 @@ use mathlib.Core.Path.{◌≡◌, refl, sym, ap, ◌∙◌}
 use mathlib.Core.List.{List, [], ◌∷◌}
 use Prim.Native.Nat.{ℕ, ◌<◌}
 use native.Mathlib.Omega.{arith}
-use lib.ListN.{length, take, length-set}
+use lib.ListN.{take, length-set}
 use Rattle.s1.specs.declared.interval.Interval.{Interval}
 use Rattle.arcs.specs.Clipping.{steps}
 use Rattle.sort.specs.Arrays.{zip}
 use Rattle.sort.specs.Permutations.{same}
 use Rattle.sort.proofs.Arrays.{holding}
 use Rattle.arcs.proofs.Turns.{first_one, room_as}
-use borrow.Author.Rules.{rules}
 use Rattle.arcs.proofs.meeting.meet_in.Goals as goal
 
 -- by no arcs, the piece is left

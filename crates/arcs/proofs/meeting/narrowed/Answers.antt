@@ -1,6 +1,5 @@
 -- `arcs::meeting::narrowed`: the definition's, by what `max` and `min` answer. Assumes nothing.
 use Rattle.arcs.specs.Kinds.{narrowed}
-use borrow.Author.Rules.{rules}
 use Rattle.arcs.proofs.meeting.narrowed.Goals as goal
 
 pub returns : goal.returns

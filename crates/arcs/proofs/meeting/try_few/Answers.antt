@@ -1,12 +1,11 @@
 -- `arcs::meeting::try_few`: where all arcs have clipped, none is left to clip. Assumes nothing.
-use mathlib.Core.Path.{◌≡◌, sym, ◌∙◌}
+use mathlib.Core.Path.{sym, ◌∙◌}
 use mathlib.Core.List.{List}
 use native.Mathlib.Omega.{arith}
 use lib.ListN.{take}
 use Rattle.s1.specs.declared.interval.Interval.{Interval}
 use Rattle.sort.specs.Arrays.{zip}
 use Rattle.arcs.proofs.Turns.{length-first, clipped-end}
-use borrow.Author.Rules.{rules}
 use Rattle.arcs.proofs.meeting.try_few.Goals as goal
 
 pub returns-then-n-le-SHORT : goal.returns-then-n-le-SHORT

@@ -7,7 +7,6 @@ use lib.ListN.{length, take}
 use Rattle.s1.specs.declared.interval.Interval.{Interval}
 use Rattle.sort.specs.Arrays.{zip}
 use Rattle.arcs.proofs.Turns.{length-first, clipped-end}
-use borrow.Author.Rules.{rules}
 use Rattle.arcs.proofs.sweep.clip_arcs.Goals as goal
 
 pub returns-then-first-n : goal.returns-then-first-n

@@ -4,7 +4,6 @@ use Prim.Native.Nat.{◌<◌}
 use native.Mathlib.Omega.{arith}
 use lib.ListN.{length}
 use Rattle.arcs.proofs.Lasts.{close-some, close-none}
-use borrow.Author.Rules.{rules}
 use Rattle.arcs.proofs.sweep.close.Goals as goal
 
 pub returns-then-x-a : goal.returns-then-x-a

@@ -1,5 +1,5 @@
 -- `arcs::sweep::close_at`: the arcs that are skipped leave settled pieces as they are. Assumes nothing.
-use mathlib.Core.Path.{◌≡◌, refl, sym, ap, ◌∙◌, subst}
+use mathlib.Core.Path.{refl, sym, ap, ◌∙◌, subst}
 use mathlib.Core.List.{List}
 use Prim.Native.Nat.{◌+◌}
 use native.Mathlib.Omega.{arith}
@@ -10,7 +10,6 @@ use Rattle.arcs.specs.Clipping.{steps}
 use Rattle.sort.specs.Arrays.{zip}
 use Rattle.arcs.specs.Inside.{Settled}
 use Rattle.arcs.proofs.Turns.{room_as}
-use borrow.Author.Rules.{rules}
 use Rattle.arcs.proofs.sweep.close_at.Goals as goal
 
 pub clip_arcs-requires : goal.clip_arcs-requires

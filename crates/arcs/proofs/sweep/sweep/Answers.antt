@@ -16,7 +16,6 @@ use Rattle.sort.specs.Arrays.{zip}
 use Rattle.arcs.proofs.Tests.{off}
 use Rattle.arcs.proofs.Turns.{first_one, clipped-turn, room_as}
 use Rattle.arcs.proofs.Lasts.{full-first, left_is}
-use borrow.Author.Rules.{rules}
 use Rattle.arcs.proofs.sweep.sweep.Goals as goal
 
 pub sweep_from-requires-then-is_full-a : goal.sweep_from-requires-then-is_full-a

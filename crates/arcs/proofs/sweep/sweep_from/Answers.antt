@@ -1,7 +1,7 @@
 -- `arcs::sweep::sweep_from`: where the sweep stops at an arc's gap that the piece ends before, the piece is closed there (proofs/Lasts.antt); else it is put
 -- after the front, and the arcs that are left clip them all. Assumes nothing.
-use mathlib.Core.Path.{◌≡◌, refl, ap, ◌∙◌, subst}
-use mathlib.Core.Bool.{Bool, true, ◌&&◌}
+use mathlib.Core.Path.{refl, ap, ◌∙◌, subst}
+use mathlib.Core.Bool.{Bool, ◌&&◌}
 use mathlib.Core.List.{List}
 use Prim.Native.Nat.{ℕ, ◌+◌, ◌<◌}
 use native.Mathlib.Omega.{arith}
@@ -16,7 +16,6 @@ use Rattle.sort.specs.Arrays.{zip}
 use Rattle.arcs.specs.Inside.{Room, Spared}
 use Rattle.arcs.proofs.Turns.{room_as}
 use Rattle.arcs.proofs.Lasts.{put_last, closed-turn, left_is}
-use borrow.Author.Rules.{rules}
 use Rattle.arcs.proofs.sweep.sweep_from.Goals as goal
 
 -- less by one

@@ -2,18 +2,15 @@
 -- proofs/Lasts.antt. Assumes nothing.
 use mathlib.Core.Path.{◌≡◌, refl, subst}
 use mathlib.Core.Bool.{Bool}
-use Prim.Native.Nat.{ℕ, ◌+◌, ◌-◌, ◌<◌}
+use Prim.Native.Nat.{ℕ, ◌+◌, ◌<◌}
 use native.Mathlib.Omega.{arith}
-use lib.ListN.{length, take, get_or, length-set}
+use lib.ListN.{get_or, length-set}
 use lib.Ieee.{nan}
 use Rattle.order.proofs.Ranks.{and_l, and_r}
 use Rattle.s1.specs.declared.interval.Interval.{Interval}
 use Rattle.s1.specs.Circle.{ends}
-use Rattle.sort.specs.Arrays.{zip}
-use Rattle.arcs.specs.Inside.{Spared, Passed, IsSwept}
-use Rattle.arcs.proofs.Tests.{on}
+use Rattle.arcs.specs.Inside.{Spared, Passed}
 use Rattle.arcs.proofs.Lasts.{swept-turn}
-use borrow.Author.Rules.{rules}
 use Rattle.arcs.proofs.sweep.sweep_last.Goals as goal
 
 -- less by one, of numbers that are equal

@@ -1,19 +1,10 @@
 -- `arcs::sweep::sweep_last`: the loop keeps that the front and the piece after it still have to be clipped by the arcs that are left. A turn is in
 -- proofs/Lasts.antt. Assumes nothing.
-use mathlib.Core.Path.{◌≡◌, refl, subst}
-use mathlib.Core.Bool.{Bool}
-use Prim.Native.Nat.{ℕ, ◌+◌, ◌-◌, ◌<◌}
-use native.Mathlib.Omega.{arith}
-use lib.ListN.{length, take, get_or, length-set}
-use lib.Ieee.{nan}
-use Rattle.order.proofs.Ranks.{and_l, and_r}
-use Rattle.s1.specs.declared.interval.Interval.{Interval}
-use Rattle.s1.specs.Circle.{ends}
+use mathlib.Core.Path.{◌≡◌}
+use Prim.Native.Nat.{◌-◌}
+use lib.ListN.{length, take}
 use Rattle.sort.specs.Arrays.{zip}
-use Rattle.arcs.specs.Inside.{Spared, Passed, IsSwept}
-use Rattle.arcs.proofs.Tests.{on}
-use Rattle.arcs.proofs.Lasts.{swept-turn}
-use borrow.Author.Rules.{rules}
+use Rattle.arcs.specs.Inside.{IsSwept}
 use Rattle.arcs.proofs.sweep.sweep_last.Given as goal
 
 abbrev pub invariant-loop-k : goal.invariant-loop-k

@@ -1,5 +1,4 @@
 -- `bbox::number::got`: by the sign; a size under ten thousand million fits the machine's numbers, and so does its negative. Assumes nothing.
-use borrow.Author.Rules.{rules}
 use mir.Syntax.{w64}
 use mir.ValLaws.{to_z-of_z}
 use lib.IntN.{pos, neg_ℤ}

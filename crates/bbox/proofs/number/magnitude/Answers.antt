@@ -1,5 +1,4 @@
 -- `bbox::number::magnitude`: by whether a digit stands there. Assumes nothing.
-use borrow.Author.Rules.{rules}
 use Rattle.bbox.specs.Reading.{magnitude_of}
 use Rattle.bbox.proofs.number.magnitude.Goals as goal
 

@@ -1,7 +1,6 @@
 -- `bbox::number::number`: by the minus. Assumes nothing.
 use native.Mathlib.Omega.{arith}
 use borrow.Author.Tests.{eq-eqb, ne_eqb}
-use borrow.Author.Rules.{rules}
 use Rattle.bbox.specs.Reading.{number_of}
 use Rattle.bbox.proofs.number.number.Goals as goal
 

@@ -1,7 +1,6 @@
 -- `bbox::number::point`: by the point, and by the digit behind it. Assumes nothing.
 use native.Mathlib.Omega.{arith}
 use borrow.Author.Tests.{eq-eqb, ne_eqb}
-use borrow.Author.Rules.{rules}
 use Rattle.bbox.specs.Reading.{point_of, fraction_of}
 use Rattle.bbox.proofs.number.point.Goals as goal
 

@@ -1,5 +1,4 @@
 -- `bbox::reader::read`: by whether the text is an array, and then by the limits. Assumes nothing.
-use borrow.Author.Rules.{rules}
 use Rattle.bbox.specs.Reading.{judged_of, read_of}
 use Rattle.bbox.proofs.reader.read.Goals as goal
 

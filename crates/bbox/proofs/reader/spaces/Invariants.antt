@@ -1,10 +1,7 @@
 -- `bbox::reader::spaces`: every byte before the present place is a space. The measure is what is left of the text. Assumes nothing.
 use Prim.Native.Nat.{◌-◌}
 use lib.ListN.{length}
-use mathlib.Core.Path.{◌≡◌, refl, sym, ◌∙◌}
-use native.Mathlib.Omega.{arith}
-use borrow.Author.Rules.{rules}
-use Rattle.bbox.proofs.Positions.{space-end, space-more, space-none}
+use mathlib.Core.Path.{◌≡◌}
 use Rattle.bbox.specs.Reading.{spaces_of}
 use Rattle.bbox.proofs.reader.spaces.Given as goal
 

@@ -1,6 +1,5 @@
 -- `bbox_text::writer::push`: one byte at the end (`pushed`). Assumes nothing.
 use native.Mathlib.Omega.{arith}
-use borrow.Author.Rules.{rules}
 use Rattle.bbox_text.proofs.Grown.{pushed}
 use Rattle.bbox_text.proofs.writer.push.Goals as goal
 

@@ -1,6 +1,5 @@
 -- `bbox_text::writer::put_decimals`: seven places one behind the other are the decimals (`seven`). Assumes nothing.
 use native.Mathlib.Omega.{arith}
-use borrow.Author.Rules.{rules}
 use Rattle.bbox_text.proofs.Grown.{grows-as, grows-both, seven}
 use Rattle.bbox_text.proofs.writer.put_decimals.Goals as goal
 

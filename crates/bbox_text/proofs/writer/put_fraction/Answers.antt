@@ -1,6 +1,5 @@
 -- `bbox_text::writer::put_fraction`: by whether anything is left behind the whole degrees. Assumes nothing.
 use native.Mathlib.Omega.{arith}
-use borrow.Author.Rules.{rules}
 use Rattle.bbox_text.proofs.Grown.{fraction-none, fraction-some, grows-as, grows-both, grows_none}
 use Rattle.bbox_text.proofs.writer.put_fraction.Goals as goal
 

@@ -1,7 +1,6 @@
 -- `bbox_text::writer::put_place`: by whether anything is left; the quotient by the unit is a digit. Assumes nothing.
 use native.Mathlib.Omega.{arith}
 use native.Mathlib.Nat.{div-lt_iff_lt-mul}
-use borrow.Author.Rules.{rules}
 use Rattle.bbox_text.proofs.Grown.{grows-as, grows_none, place_none, place-some}
 use Rattle.bbox_text.proofs.writer.put_place.Goals as goal
 

@@ -1,6 +1,5 @@
 -- `bbox_text::writer::put_size`: the whole degrees, and what is left behind them. Assumes nothing.
 use native.Mathlib.Omega.{arith}
-use borrow.Author.Rules.{rules}
 use Rattle.bbox_text.proofs.Grown.{grows-both}
 use Rattle.bbox_text.specs.Text.{size_text}
 use Rattle.bbox_text.proofs.writer.put_size.Goals as goal

@@ -1,6 +1,5 @@
 -- `bbox_text::writer::put_whole`: by how many digits the number has (`whole-one`, `whole-two`, `whole-three`). Assumes nothing.
 use native.Mathlib.Omega.{arith}
-use borrow.Author.Rules.{rules}
 use Rattle.bbox_text.proofs.Grown.{grows-as, grows-both, whole-one, whole-three, whole-two}
 use Rattle.bbox_text.proofs.writer.put_whole.Goals as goal
 

@@ -1,7 +1,6 @@
 -- `bbox_text::writer::write`: by whether reading can give the box; the text that is written is the one that was made. Assumes nothing.
 use mathlib.Core.Path.{sym, ◌∙◌}
 use native.Mathlib.Omega.{arith}
-use borrow.Author.Rules.{rules}
 use lib.Seq.{length-take-le}
 use Rattle.bounds.proofs.Boxes.{sizes}
 use Rattle.bbox_text.proofs.Grown.{not-given, written}

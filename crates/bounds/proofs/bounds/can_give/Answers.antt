@@ -1,6 +1,5 @@
 -- `bounds::bounds::can_give`: both tests are the definition's. Assumes nothing.
 use Rattle.bounds.specs.Bounds.{givable}
-use borrow.Author.Rules.{rules}
 use Rattle.bounds.proofs.bounds.can_give.Goals as goal
 
 pub returns : goal.returns

@@ -1,5 +1,4 @@
 -- `bounds::bounds::read_seam`: by the test of -180. Assumes nothing.
-use borrow.Author.Rules.{rules}
 use mathlib.Core.Path.{◌≡◌, sym, ◌∙◌, ap}
 use mathlib.Core.Bool.{true, false}
 use lib.IntN.{ℤ}

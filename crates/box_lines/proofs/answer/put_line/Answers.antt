@@ -1,6 +1,5 @@
 -- `box_lines::answer::put_line`: what the writer leaves behind the place, and the newline behind it (`put-line`). Assumes nothing.
 use native.Mathlib.Omega.{arith}
-use borrow.Author.Rules.{rules}
 use Rattle.box_lines.proofs.Lined.{box-short, length-line, counted, put-length, put-line}
 use Rattle.box_lines.proofs.answer.put_line.Goals as goal
 

@@ -1,11 +1,8 @@
 -- `box_lines::answer::put_lines`: the lines of the pieces before the present one stand, and the others are still to come (`Standing`). The measure is what is
 -- left of the pieces. Assumes nothing.
-use mathlib.Core.Path.{◌≡◌, refl, ◌∙◌}
-use Prim.Native.Nat.{◌-◌, ◌≤◌}
+use mathlib.Core.Path.{refl, ◌∙◌}
 use native.Mathlib.Omega.{arith}
-use borrow.Author.Rules.{rules}
-use lib.ListN.{length}
-use Rattle.box_lines.proofs.Lined.{Standing, none-stand, one_more, all-stand}
+use Rattle.box_lines.proofs.Lined.{none-stand, one_more, all-stand}
 use Rattle.box_lines.proofs.answer.put_lines.Goals as goal
 
 pub loop-i-init : goal.loop-i-init

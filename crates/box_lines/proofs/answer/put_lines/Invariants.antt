@@ -1,11 +1,9 @@
 -- `box_lines::answer::put_lines`: the lines of the pieces before the present one stand, and the others are still to come (`Standing`). The measure is what is
 -- left of the pieces. Assumes nothing.
-use mathlib.Core.Path.{◌≡◌, refl, ◌∙◌}
+use mathlib.Core.Path.{◌≡◌}
 use Prim.Native.Nat.{◌-◌, ◌≤◌}
-use native.Mathlib.Omega.{arith}
-use borrow.Author.Rules.{rules}
 use lib.ListN.{length}
-use Rattle.box_lines.proofs.Lined.{Standing, none-stand, one_more, all-stand}
+use Rattle.box_lines.proofs.Lined.{Standing}
 use Rattle.box_lines.proofs.answer.put_lines.Given as goal
 
 abbrev pub invariant-loop-i : goal.invariant-loop-i

@@ -1,16 +1,9 @@
 -- `box_lines::gather::gather`: the list holds the boxes of the lines read so far, and the rest of the text is still to be read (`Held`). The measure is what is
 -- left of the text. Assumes nothing.
-use mathlib.Core.Path.{◌≡◌, sym, ap, ◌∙◌, subst}
-use mathlib.Core.List.{List, [], ◌∷◌}
-use Prim.Native.Nat.{◌+◌, ◌*◌, ◌-◌, ◌≤◌}
-use native.Mathlib.Omega.{arith}
-use borrow.Author.Rules.{rules}
+use mathlib.Core.Path.{◌≡◌}
+use Prim.Native.Nat.{◌+◌, ◌-◌, ◌≤◌}
 use lib.ListN.{length}
-use lib.Seq.{length-sets}
-use lib.IntN.{ℤ}
-use Rattle.box_lines.specs.Answers.{GLOBE, wholes}
-use Rattle.box_lines.specs.Inside.{none-there, all_read, one-refused, one-too-many}
-use Rattle.box_lines.proofs.Held.{Held, starts, good, bad, over, none, ends, all_held}
+use Rattle.box_lines.proofs.Held.{Held}
 use Rattle.box_lines.proofs.gather.gather.Given as goal
 
 abbrev pub invariant-loop-at : goal.invariant-loop-at

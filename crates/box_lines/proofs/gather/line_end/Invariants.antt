@@ -1,11 +1,8 @@
 -- `box_lines::gather::line_end`: no byte before the present place ends the line. The measure is what is left of the text. Assumes nothing.
-use mathlib.Core.Path.{◌≡◌, sym, ◌∙◌}
+use mathlib.Core.Path.{◌≡◌}
 use Prim.Native.Nat.{◌+◌, ◌-◌, ◌≤◌}
-use native.Mathlib.Omega.{arith}
-use borrow.Author.Rules.{rules}
 use lib.ListN.{length, drop}
 use Rattle.box_lines.specs.Lines.{line_of}
-use Rattle.box_lines.proofs.Cuts.{line_step, line-here, line-last}
 use Rattle.box_lines.proofs.gather.line_end.Given as goal
 
 abbrev pub invariant-loop-i : goal.invariant-loop-i

@@ -1,15 +1,13 @@
 -- `box_lines::wholes::fill`: the places before the present one are filled in. The measure is what is left of the list. Assumes nothing.
-use mathlib.Core.Path.{◌≡◌, refl, ap, ◌∙◌}
-use Prim.Native.Nat.{◌-◌, ◌≤◌}
+use mathlib.Core.Path.{refl, ap, ◌∙◌}
 use native.Mathlib.Omega.{arith}
-use borrow.Author.Rules.{rules}
-use lib.ListN.{length, length-set, get_or}
+use lib.ListN.{length-set, get_or}
 use lib.IntN.{ℤ, pos}
 use mir.Syntax.{w64}
 use mir.Val.{SFits}
 use mir.ValLaws.{to_z-of_z}
 use Rattle.degrees.specs.Degrees.{radians}
-use Rattle.box_lines.proofs.Filled.{Filled, none_filled, one-filled, all-filled}
+use Rattle.box_lines.proofs.Filled.{none_filled, one-filled, all-filled}
 use Rattle.box_lines.proofs.wholes.fill.Goals as goal
 
 pub loop-i-init : goal.loop-i-init

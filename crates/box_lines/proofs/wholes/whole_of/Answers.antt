@@ -2,17 +2,14 @@
 use mathlib.Core.Path.{◌≡◌, refl, sym, ap, ◌∙◌}
 use mathlib.Core.Bool.{true, false}
 use mathlib.Core.List.{List}
-use Prim.Native.Nat.{◌-◌, ◌≤◌}
 use native.Mathlib.Omega.{arith}
-use borrow.Author.Rules.{rules}
-use lib.ListN.{length, drop, get_or}
+use lib.ListN.{length, get_or}
 use lib.IntN.{ℤ, pos}
 use lib.Ieee.{Float, eq, nan}
 use mir.Syntax.{w64}
 use mir.Val.{SFits}
 use mir.ValLaws.{to_z-of_z}
 use Rattle.degrees.specs.Degrees.{radians}
-use Rattle.box_lines.specs.Answers.{whole_of}
 use Rattle.box_lines.proofs.Filled.{length-radians, radians-at, not-here, is-here, nowhere}
 use Rattle.box_lines.proofs.wholes.whole_of.Goals as goal
 

@@ -1,5 +1,4 @@
 -- `c_records::texts::text_of`: the operation's answer, and the zeros as it leaves them. Assumes nothing.
-use borrow.Author.Rules.{rules}
 use Rattle.c_records.proofs.texts.text_of.Goals as goal
 
 pub returns : goal.returns

@@ -1,5 +1,4 @@
 -- `capi::lent::sjurnabel_scan_list`: the box is read, grown by value, and kept or not as `keep` does. Assumes nothing.
-use borrow.Author.Rules.{rules}
 use Rattle.capi.proofs.lent.sjurnabel_scan_list.Goals as goal
 
 pub returns : goal.returns

@@ -1,5 +1,4 @@
 -- `capi::line::sjurnabel_line_directed_hausdorff_distance`: case by case; one over zero is infinity. Assumes nothing.
-use borrow.Author.Rules.{rules}
 use lib.Ieee.{of_bits, div}
 use Rattle.r1.specs.Line.{distance_of}
 use Rattle.capi.specs.Records.{is_unbounded}

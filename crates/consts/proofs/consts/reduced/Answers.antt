@@ -1,9 +1,6 @@
 -- `consts::consts::reduced`: each subtraction leaves the remainder under the comparisons that led to it (proofs/Turns.antt). Assumes nothing.
-use mathlib.Core.Path.{◌≡◌, ◌∙◌}
-use lib.IntN.{ℤ}
-use lib.Ieee.{Float}
-use Rattle.consts.specs.Remainder.{remainder_of}
-use Rattle.consts.proofs.Remainders.{Leaves, leaves-remainder}
+use mathlib.Core.Path.{◌∙◌}
+use Rattle.consts.proofs.Remainders.{leaves-remainder}
 use Rattle.consts.proofs.Turns.{Bounded, is-bounded, two-turns, one-turn, minus-two-turns, minus-one-turn, no-turn}
 use Rattle.consts.proofs.consts.reduced.Goals as goal
 

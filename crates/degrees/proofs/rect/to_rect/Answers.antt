@@ -1,6 +1,5 @@
 -- `degrees::rect::to_rect`: at each return the answer is the definition's, under the test that led there. Assumes nothing.
 use Rattle.degrees.specs.Degrees.{to_rect}
-use Rattle.std.proofs.Common.{rules}
 use Rattle.degrees.proofs.rect.to_rect.Goals as goal
 
 pub returns-then-can_give : goal.returns-then-can_give

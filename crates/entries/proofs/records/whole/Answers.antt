@@ -4,7 +4,6 @@ use Prim.Native.Nat.{ℕ}
 use native.Mathlib.Omega.{arith}
 use Rattle.entries.specs.Lists.{whole_length}
 use Rattle.entries.proofs.Lengths.{no_size, by_count}
-use borrow.Author.Rules.{rules}
 use Rattle.entries.proofs.records.whole.Goals as goal
 
 pub returns-then-size-eq0 : goal.returns-then-size-eq0
@@ -13,4 +12,6 @@ returns-then-size-eq0 c =
     no_size a.limit a.n ∙ ap (λ (size : ℕ). whole_length size a.limit a.n) (sym c.if-size-eq0.true)
 
 pub returns : goal.returns
-returns c = let a = c.args in by_count a.size a.limit a.n (omega (arith, c.if-size-eq0.false))
+returns c =
+    let a = c.args in
+    by_count a.size a.limit a.n (omega (arith, c.if-size-eq0.false))

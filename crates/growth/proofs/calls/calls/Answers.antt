@@ -1,10 +1,9 @@
 -- `growth::calls::calls`: the loop keeps that the calls so far with those that are left come to the whole (specs/Devices.antt, `SoFar`). The turns are in
 -- proofs/Turns.antt; points that are held already are passed over by `held_until`. Assumes nothing.
-use mathlib.Core.Path.{◌≡◌, refl, sym, subst}
+use mathlib.Core.Path.{refl, sym, subst}
 use mathlib.Core.List.{List}
-use Prim.Native.Nat.{◌+◌, ◌-◌, ◌<◌}
+use Prim.Native.Nat.{◌+◌, ◌<◌}
 use native.Mathlib.Omega.{arith}
-use borrow.Author.Rules.{rules}
 use lib.ListN.{length}
 use lib.Ieee.{Float}
 use denote.Floats.{is_true}

@@ -1,5 +1,4 @@
 -- `growth::calls::is_held`: the tests are those of `is_held`, in its order. Assumes nothing.
-use borrow.Author.Rules.{rules}
 use Rattle.growth.specs.Devices.{is_held}
 use Rattle.growth.proofs.calls.is_held.Goals as goal
 

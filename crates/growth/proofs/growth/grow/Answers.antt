@@ -1,6 +1,5 @@
 -- `growth::growth::grow`: each return is what proofs/Made.antt has of the start and of the calls. Assumes nothing.
 use mathlib.Core.Path.{sym}
-use borrow.Author.Rules.{rules}
 use Rattle.growth.proofs.Made.{grow-refused, growing, grow-bad, grow-good}
 use Rattle.growth.proofs.growth.grow.Goals as goal
 

@@ -1,15 +1,11 @@
 -- `growth::start::start_of`: each return is a case of `start_of`, by the test that led to it (proofs/Turns.antt); what is accepted is valid, since all
 -- numbers that are handed in are doubles. Assumes nothing.
-use mathlib.Core.Path.{◌≡◌, sym, ◌∙◌}
-use borrow.Author.Rules.{rules}
-use Rattle.s2.specs.declared.rect.Answer.{Answer}
+use mathlib.Core.Path.{sym, ◌∙◌}
 use Rattle.s2.specs.Places.{Doubles, DoublePoint}
 use Rattle.entries.specs.Lists.{All}
 use Rattle.lists.specs.Points.{points_of}
 use Rattle.lists.proofs.Doubles.{all-double-points}
-use Rattle.growth.specs.Growth.{start_of}
-use Rattle.growth.specs.Devices.{Started}
-use Rattle.growth.proofs.Turns.{taken, passed, bad-length, start-refused, start-read}
+use Rattle.growth.proofs.Turns.{bad-length, start-refused, start-read}
 use Rattle.growth.proofs.Made.{started}
 use Rattle.growth.proofs.start.start_of.Goals as goal
 

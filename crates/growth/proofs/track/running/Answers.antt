@@ -1,6 +1,5 @@
 -- `growth::track::running`: each return is what proofs/Made.antt has of the start and of the calls. Assumes nothing.
 use mathlib.Core.Path.{sym}
-use borrow.Author.Rules.{rules}
 use Rattle.growth.proofs.Made.{ran-refused, growing, few, ran-made}
 use Rattle.growth.proofs.track.running.Goals as goal
 

@@ -6,7 +6,6 @@ use lib.ListN.{get_or, get_or-eq_default}
 use lib.Ieee.{Float, nan}
 use Rattle.s2.specs.Zone.{at}
 use Rattle.lists.proofs.PointLists.{past_end}
-use borrow.Author.Rules.{rules}
 use Rattle.lists.proofs.points.point_at.Goals as goal
 
 pub returns-then-i-n : goal.returns-then-i-n

@@ -1,7 +1,6 @@
 -- `lists::rects::beyond`: each number that is there, and the NaN for each that is not. Assumes nothing.
 use mathlib.Core.Path.{sym, ◌∙◌}
 use Rattle.lists.proofs.RectLists.{past_end}
-use borrow.Author.Rules.{rules}
 use Rattle.lists.proofs.rects.beyond.Goals as goal
 
 pub returns-then-i-list : goal.returns-then-i-list

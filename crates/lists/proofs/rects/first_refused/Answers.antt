@@ -1,7 +1,7 @@
 -- `lists::rects::first_refused`: the loop keeps that the entries so far are accepted; what a turn comes to is told by the crate entries (FirstLaws.antt). Assumes nothing.
 use mathlib.Core.Path.{◌≡◌, refl, sym, ap, subst, ◌∙◌}
 use mathlib.Core.List.{List}
-use Prim.Native.Nat.{ℕ, ◌+◌, ◌-◌, ◌*◌, ◌/◌, ◌≤◌, ◌<◌}
+use Prim.Native.Nat.{ℕ, ◌+◌, ◌-◌, ◌*◌, ◌/◌, ◌<◌}
 use native.Mathlib.Omega.{arith}
 use lib.ListN.{length, take, get_or}
 use lib.Ieee.{Float}
@@ -14,7 +14,6 @@ use Rattle.lists.specs.Rects.{rects_of, rect_at}
 use Rattle.lists.specs.Refused.{of_rect}
 use Rattle.lists.proofs.RectLists.{length-rects, rect-entry}
 use Rattle.entries.proofs.FirstLaws.{Good, one-passed, all-passed, one-stopped}
-use borrow.Author.Rules.{rules}
 use Rattle.lists.proofs.rects.first_refused.Goals as goal
 
 -- what was read at the entry k is that entry's own number

@@ -1,7 +1,6 @@
 -- `lists::rects::read_rect`: the rectangle there, as it is read. Assumes nothing.
 use mathlib.Core.Path.{ap, ◌∙◌}
 use Rattle.s2.specs.Reading.{read_one}
-use borrow.Author.Rules.{rules}
 use Rattle.lists.proofs.rects.read_rect.Goals as goal
 
 pub returns : goal.returns

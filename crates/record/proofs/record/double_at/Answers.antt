@@ -2,7 +2,6 @@
 use mathlib.Core.Path.{◌∙◌, ap}
 use Rattle.bits.specs.Pattern.{of_pattern}
 use Rattle.record.specs.Records.{double_at, word_at}
-use borrow.Author.Rules.{rules}
 use Rattle.record.proofs.record.double_at.Goals as goal
 
 pub returns : goal.returns

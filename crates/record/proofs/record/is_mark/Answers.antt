@@ -2,7 +2,6 @@
 use native.Mathlib.Omega.{arith}
 use Rattle.record.specs.Records.{is_mark}
 use Rattle.record.specs.Inside.{is_second}
-use borrow.Author.Rules.{rules}
 use borrow.Author.Tests.{ne_eqb}
 use Rattle.record.proofs.record.is_mark.Goals as goal
 

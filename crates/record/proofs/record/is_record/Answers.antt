@@ -1,7 +1,6 @@
 -- `record::record::is_record`: at each return the answer is the definition's, under the test that led there. Assumes nothing.
 use borrow.Author.Tests.{le-leb, lt-leb}
 use Rattle.record.specs.Records.{whole_record}
-use borrow.Author.Rules.{rules}
 use Rattle.record.proofs.record.is_record.Goals as goal
 
 pub returns-then-s-lt-SIZE : goal.returns-then-s-lt-SIZE

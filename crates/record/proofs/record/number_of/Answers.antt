@@ -1,6 +1,5 @@
 -- `record::record::number_of`: in each arm the number is the definition's. Assumes nothing.
 use Rattle.record.specs.Records.{record_number}
-use borrow.Author.Rules.{rules}
 use Rattle.record.proofs.record.number_of.Goals as goal
 
 pub returns-in-Rectangle : goal.returns-in-Rectangle

@@ -1,7 +1,6 @@
 -- `record::record::read_record`: at each return the number and the values are the definitions', under the test that led there. Assumes nothing.
 use mathlib.Core.Path.{◌∙◌, sym}
 use Rattle.record.specs.Records.{number_of, values_of, record_number, record_values}
-use borrow.Author.Rules.{rules}
 use Rattle.record.proofs.Records.{whole_long}
 use Rattle.record.proofs.record.read_record.Goals as goal
 

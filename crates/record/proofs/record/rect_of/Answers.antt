@@ -1,6 +1,5 @@
 -- `record::record::rect_of`: the four doubles are the definition's. Assumes nothing.
 use Rattle.record.specs.Records.{rect_of}
-use borrow.Author.Rules.{rules}
 use Rattle.record.proofs.record.rect_of.Goals as goal
 
 pub returns : goal.returns

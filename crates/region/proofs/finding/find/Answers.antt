@@ -1,14 +1,10 @@
 -- `region::finding::find`: the arcs are read as two kinds and met; what they have in common is what all have (proofs/Findings.antt). Assumes nothing.
-use mathlib.Core.Path.{◌≡◌, sym, ◌∙◌}
-use mathlib.Core.Bool.{true, false}
+use mathlib.Core.Path.{sym, ◌∙◌}
 use native.Mathlib.Omega.{arith}
-use lib.ListN.{length}
-use Rattle.r1.specs.Line as line
 use Rattle.sort.specs.Arrays.{zip}
 use Rattle.arcs.specs.Inside.{Room}
 use Rattle.arcs.proofs.Turns.{room-is}
 use Rattle.region.proofs.Findings.{none_found, some-found, both_read}
-use borrow.Author.Rules.{rules}
 use Rattle.region.proofs.finding.find.Goals as goal
 
 pub returns-then-a-ne-ACCEPTED : goal.returns-then-a-ne-ACCEPTED

@@ -2,22 +2,18 @@
 -- the rest's. Assumes nothing.
 use mathlib.Core.Path.{◌≡◌, refl, sym, ap, ◌∙◌}
 use mathlib.Core.List.{◌++◌}
-use mathlib.Core.Logic.{⊎_elim}
-use Prim.Native.Nat.{ℕ, ◌+◌, ◌-◌, ◌*◌, ◌%◌, ◌≤◌, ◌<◌}
+use Prim.Native.Nat.{ℕ, ◌+◌, ◌<◌}
 use native.Mathlib.Omega.{arith}
 use lib.ListN.{length, drop, take, length-set}
 use Rattle.r1.specs.Line as line
-use Rattle.s1.specs.Circle.{FULL}
 use Rattle.s2.specs.declared.reading.One.{One}
-use Rattle.s2.specs.Zone.{LATITUDES}
 use Rattle.s2.specs.Reading.{read_one}
 use Rattle.lists.specs.Rects.{rects_of, rect_at, as_read_all}
 use Rattle.lists.specs.Refused.{first_refused}
 use Rattle.arcs.specs.Kinds.{risen, crossing}
 use Rattle.sort.specs.Arrays.{zip}
-use Rattle.region.specs.Region.{band_from, lngs}
+use Rattle.region.specs.Region.{band_from}
 use Rattle.region.proofs.Turns.{band-turn, refused-here, accepted-here, band-end, accepted-end, arcs_from, risen-turn, risen-past, risen-end, taken-turn, taken-past, taken-end}
-use borrow.Author.Rules.{rules}
 use Rattle.region.proofs.reading.read_arcs.Goals as goal
 use Rattle.region.proofs.reading.read_arcs.Goals.{then-a, else-a}
 

@@ -9,7 +9,6 @@ use Rattle.region.specs.Answers.{refusal_of, Promised}
 use Rattle.region.proofs.Cases.{odd, long, bad-list, no-list, refused}
 use Rattle.region.proofs.Refusals.{no-entry}
 use Rattle.region.proofs.Listings.{refusal_is}
-use borrow.Author.Rules.{rules}
 use Rattle.region.proofs.region.common_region.Goals as goal
 
 pub returns-then-n-ne0 : goal.returns-then-n-ne0

@@ -1,7 +1,6 @@
 -- `region::region::entry_in`: of a list that is refused the first bad entry is found, and one that is taken has none. Assumes nothing.
 use mathlib.Core.Path.{sym}
 use Rattle.region.proofs.Cases.{good, entry-of}
-use borrow.Author.Rules.{rules}
 use Rattle.region.proofs.region.entry_in.Goals as goal
 
 pub returns-then-refusal-ne-ACCEPTED : goal.returns-then-refusal-ne-ACCEPTED

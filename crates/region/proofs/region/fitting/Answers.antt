@@ -1,7 +1,6 @@
 -- `region::region::fitting`: what is returned under the test, and without it. Assumes nothing.
 use mathlib.Core.Path.{refl}
 use native.Mathlib.Omega.{arith}
-use borrow.Author.Rules.{rules}
 use Rattle.region.proofs.region.fitting.Goals as goal
 
 pub returns-then-room-n : goal.returns-then-room-n

@@ -7,7 +7,6 @@ use Rattle.s2.specs.declared.rect.Rect.{Rect}
 use Rattle.region.specs.Answers.{entry_of}
 use Rattle.region.specs.Inside.{IsWritten}
 use Rattle.region.proofs.Cases.{good, bad-entry, refused, listed}
-use borrow.Author.Rules.{rules}
 use Rattle.region.proofs.region.region_in.Goals as goal
 
 pub find-f-requires : goal.find-f-requires

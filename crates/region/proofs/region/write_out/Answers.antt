@@ -2,13 +2,12 @@
 -- proofs/Written.antt. Assumes nothing.
 use mathlib.Core.Path.{◌≡◌, refl, ap, ◌∙◌}
 use mathlib.Core.List.{◌++◌}
-use Prim.Native.Nat.{ℕ, ◌-◌, ◌*◌, ◌≤◌, ◌<◌}
+use Prim.Native.Nat.{ℕ, ◌*◌, ◌<◌}
 use native.Mathlib.Omega.{arith}
 use lib.ListN.{length, drop, take, length-set}
 use Rattle.sort.specs.Arrays.{zip}
 use Rattle.region.specs.Region.{across}
 use Rattle.region.proofs.Written.{out_none, out-turn}
-use borrow.Author.Rules.{rules}
 use Rattle.lists.specs.Rects.{numbers_of}
 use Rattle.region.proofs.region.write_out.Goals as goal
 

@@ -1,14 +1,11 @@
 -- `region::region::write_out`: the loop keeps that the output is the numbers of the pieces so far, and behind them what came in. A turn is in
 -- proofs/Written.antt. Assumes nothing.
-use mathlib.Core.Path.{◌≡◌, refl, ap, ◌∙◌}
+use mathlib.Core.Path.{◌≡◌}
 use mathlib.Core.List.{◌++◌}
-use Prim.Native.Nat.{ℕ, ◌-◌, ◌*◌, ◌≤◌, ◌<◌}
-use native.Mathlib.Omega.{arith}
-use lib.ListN.{length, drop, take, length-set}
+use Prim.Native.Nat.{◌-◌, ◌*◌, ◌≤◌}
+use lib.ListN.{length, drop, take}
 use Rattle.sort.specs.Arrays.{zip}
 use Rattle.region.specs.Region.{across}
-use Rattle.region.proofs.Written.{out_none, out-turn}
-use borrow.Author.Rules.{rules}
 use Rattle.lists.specs.Rects.{numbers_of}
 use Rattle.region.proofs.region.write_out.Given as goal
 

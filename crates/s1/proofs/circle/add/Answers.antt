@@ -1,6 +1,5 @@
 -- `s1::circle::add`: at each return the answer is the definition's, under the tests that led there. Assumes nothing.
 use Rattle.s1.specs.Circle.{add}
-use borrow.Author.Rules.{rules}
 use Rattle.s1.proofs.circle.add.Goals as goal
 
 pub returns-then-fast_contains : goal.returns-then-fast_contains

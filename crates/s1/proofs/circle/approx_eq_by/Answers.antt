@@ -1,6 +1,5 @@
 -- `s1::circle::approx_eq_by`: at each return the answer is the definition's, under the tests that led there. Assumes nothing.
 use Rattle.s1.specs.Circle.{approx_eq_by}
-use borrow.Author.Rules.{rules}
 use Rattle.s1.proofs.circle.approx_eq_by.Goals as goal
 
 pub returns-then-is_empty : goal.returns-then-is_empty

@@ -1,6 +1,5 @@
 -- `s1::circle::center`: at each return the answer is the definition's, under the tests that led there. Assumes nothing.
 use Rattle.s1.specs.Circle.{center}
-use borrow.Author.Rules.{rules}
 use Rattle.s1.proofs.circle.center.Goals as goal
 
 pub returns : goal.returns

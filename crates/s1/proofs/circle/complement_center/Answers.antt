@@ -1,6 +1,5 @@
 -- `s1::circle::complement_center`: at each return the answer is the definition's, under the tests that led there. Assumes nothing.
 use Rattle.s1.specs.Circle.{complement_center}
-use borrow.Author.Rules.{rules}
 use Rattle.s1.proofs.circle.complement_center.Goals as goal
 
 pub returns-then-is_point : goal.returns-then-is_point

@@ -1,6 +1,5 @@
 -- `s1::circle::contains_interval`: at each return the answer is the definition's, under the tests that led there. Assumes nothing.
 use Rattle.s1.specs.Circle.{contains_interval}
-use borrow.Author.Rules.{rules}
 use Rattle.s1.proofs.circle.contains_interval.Goals as goal
 
 pub returns-then-is_inverted-2 : goal.returns-then-is_inverted-2

@@ -1,6 +1,5 @@
 -- `s1::circle::directed_hausdorff_distance`: at each return the answer is the definition's, under the tests that led there. Assumes nothing.
 use Rattle.s1.specs.Circle.{directed_hausdorff_distance}
-use borrow.Author.Rules.{rules}
 use Rattle.s1.proofs.circle.directed_hausdorff_distance.Goals as goal
 
 pub returns-then-contains_interval : goal.returns-then-contains_interval

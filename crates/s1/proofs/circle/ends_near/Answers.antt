@@ -1,6 +1,5 @@
 -- `s1::circle::ends_near`: at each return the answer is the definition's, under the tests that led there. Assumes nothing.
 use Rattle.s1.specs.Circle.{near_ends}
-use borrow.Author.Rules.{rules}
 use Rattle.s1.proofs.circle.ends_near.Goals as goal
 
 pub returns : goal.returns

@@ -1,6 +1,5 @@
 -- `s1::circle::expanded`: at each return the answer is the definition's, under the tests that led there. Assumes nothing.
 use Rattle.s1.specs.Circle.{expanded}
-use borrow.Author.Rules.{rules}
 use Rattle.s1.proofs.circle.expanded.Goals as goal
 
 pub returns-then-is_empty : goal.returns-then-is_empty

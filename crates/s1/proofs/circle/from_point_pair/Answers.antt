@@ -1,6 +1,5 @@
 -- `s1::circle::from_point_pair`: at each return the answer is the definition's, under the tests that led there. Assumes nothing.
 use Rattle.s1.specs.Circle.{from_point_pair}
-use borrow.Author.Rules.{rules}
 use Rattle.s1.proofs.circle.from_point_pair.Goals as goal
 
 pub returns-then-positive_distance : goal.returns-then-positive_distance

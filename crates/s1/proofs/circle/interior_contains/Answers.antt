@@ -1,6 +1,5 @@
 -- `s1::circle::interior_contains`: at each return the answer is the definition's, under the tests that led there. Assumes nothing.
 use Rattle.s1.specs.Circle.{interior_contains}
-use borrow.Author.Rules.{rules}
 use Rattle.s1.proofs.circle.interior_contains.Goals as goal
 
 pub returns-then-is_inverted : goal.returns-then-is_inverted

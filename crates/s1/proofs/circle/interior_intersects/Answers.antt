@@ -1,6 +1,5 @@
 -- `s1::circle::interior_intersects`: at each return the answer is the definition's, under the tests that led there. Assumes nothing.
 use Rattle.s1.specs.Circle.{interior_intersects}
-use borrow.Author.Rules.{rules}
 use Rattle.s1.proofs.circle.interior_intersects.Goals as goal
 
 pub returns-then-is_empty-is_point : goal.returns-then-is_empty-is_point

@@ -1,6 +1,5 @@
 -- `s1::circle::interior_meets`: at each return the answer is the definition's, under the tests that led there. Assumes nothing.
 use Rattle.s1.specs.Circle.{inside_meets}
-use borrow.Author.Rules.{rules}
 use Rattle.s1.proofs.circle.interior_meets.Goals as goal
 
 pub returns-then-is_inverted : goal.returns-then-is_inverted

@@ -1,6 +1,5 @@
 -- `s1::circle::move_ends`: at each return the answer is the definition's, under the tests that led there. Assumes nothing.
 use Rattle.s1.specs.Circle.{moved}
-use borrow.Author.Rules.{rules}
 use Rattle.s1.proofs.circle.move_ends.Goals as goal
 
 pub returns : goal.returns

@@ -1,5 +1,4 @@
 -- `s1::circle::reach_to`: at each return the answer is the definition's, under the tests that led there. Assumes nothing.
-use borrow.Author.Rules.{rules}
 use Rattle.s1.proofs.circle.reach_to.Goals as goal
 
 pub returns : goal.returns

@@ -4,7 +4,6 @@ use mathlib.Core.Path.{◌≡◌, sym, ◌∙◌}
 use mathlib.Core.Bool.{true, false, cond}
 use lib.Ieee as Ieee
 use Rattle.s1.specs.Circle.{ends, is_empty, fast_contains, positive_distance, union}
-use borrow.Author.Rules.{rules}
 use Rattle.s1.proofs.circle.union.Goals as goal
 
 -- ---- other is empty; its western end lies in i

@@ -1,6 +1,5 @@
 -- `s1::reading::read_one`: at each return the answer is the definition's, under the tests that led there. Assumes nothing.
 use Rattle.s1.specs.Reading.{read_one}
-use borrow.Author.Rules.{rules}
 use Rattle.s1.proofs.reading.read_one.Goals as goal
 
 pub returns : goal.returns

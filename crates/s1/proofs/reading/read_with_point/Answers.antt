@@ -1,6 +1,5 @@
 -- `s1::reading::read_with_point`: at each return the answer is the definition's, under the tests that led there. Assumes nothing.
 use Rattle.s1.specs.Reading.{read_with_point}
-use borrow.Author.Rules.{rules}
 use Rattle.s1.proofs.reading.read_with_point.Goals as goal
 
 pub returns : goal.returns

@@ -7,7 +7,6 @@ use Rattle.s1.specs.Circle.{is_valid}
 use Rattle.s1.specs.Devices.{usual}
 use Rattle.s1.specs.Reading.{read_one}
 use Rattle.s1.proofs.Readings.{valid-reach, usual-valid}
-use borrow.Author.Rules.{rules}
 use Rattle.s1.proofs.reading.refusal_of.Goals as goal
 
 pub returns-then-is_usual : goal.returns-then-is_usual

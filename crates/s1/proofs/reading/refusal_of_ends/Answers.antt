@@ -6,7 +6,6 @@ use lib.Ieee.{binary64, fits}
 use Rattle.order.proofs.Ranks.{and_l, and_r}
 use Rattle.s1.specs.Reading.{on_circle, read_ends}
 use Rattle.s1.proofs.Readings.{circle-reach}
-use borrow.Author.Rules.{rules}
 use Rattle.s1.proofs.reading.refusal_of_ends.Goals as goal
 
 pub returns-then-on_circle : goal.returns-then-on_circle

@@ -6,7 +6,6 @@ use Rattle.consts.specs.Refusal.{first_refusal}
 use Rattle.s2.specs.Places.{Doubles}
 use Rattle.s2.specs.Devices.{usual}
 use Rattle.s2.proofs.Readings.{usual-in}
-use borrow.Author.Rules.{rules}
 use Rattle.s2.proofs.reading.two_refusal.Goals as goal
 
 pub returns-then-is_usual : goal.returns-then-is_usual

@@ -1,6 +1,6 @@
 -- `scan::worker::enlarge`: under 0 what `grow_point` answered is stored, and under any other number the box is left as it was; either way the box is
 -- what the call leaves. All that the proof knows of `grow_point` is that it meets its contract. Assumes nothing.
-use mathlib.Core.Path.{◌≡◌, ap, sym, ◌∙◌}
+use mathlib.Core.Path.{ap, sym, ◌∙◌}
 use Rattle.s2.specs.declared.rect.Answer.{Answer}
 use Rattle.s2.specs.Zone.{at}
 use Rattle.growth.specs.RunningBox.{kept}

@@ -1,5 +1,5 @@
 -- `scan::worker::enlarge_all`: as `enlarge`, with the list passed on to `grow`. Assumes nothing.
-use mathlib.Core.Path.{◌≡◌, ap, ◌∙◌}
+use mathlib.Core.Path.{ap, ◌∙◌}
 use Rattle.s2.specs.declared.rect.Answer.{Answer}
 use Rattle.growth.specs.RunningBox.{kept}
 use Rattle.scan.specs.Scan.{enlarge_all}

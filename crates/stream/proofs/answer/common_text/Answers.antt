@@ -7,7 +7,6 @@ use lib.ListN.{length}
 use lib.Seq.{length-take-le}
 use Rattle.text.specs.Answers.{wrote, left}
 use Rattle.stream.proofs.Answers.{taken, numbers-are, fault-is, text-listed, text-refused}
-use borrow.Author.Rules.{rules}
 use Rattle.stream.proofs.answer.common_text.Goals as goal
 
 pub overflow_mul-n : goal.overflow_mul-n

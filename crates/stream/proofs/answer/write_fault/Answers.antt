@@ -4,7 +4,6 @@ use mathlib.Core.Bool.{true, false}
 use lib.ListN.{length}
 use Rattle.consts.specs.Refusal.{of_entry}
 use Rattle.stream.proofs.Answers.{wrote-at, left_at, wrote-alone, left_alone}
-use borrow.Author.Rules.{rules}
 use Rattle.stream.proofs.answer.write_fault.Goals as goal
 
 pub returns-then-of_entry : goal.returns-then-of_entry

@@ -1,6 +1,5 @@
 -- `stream::gather::ended`: at each return the answer is the definition's, under the test that led there. Assumes nothing.
 use native.Mathlib.Omega.{arith}
-use borrow.Author.Rules.{rules}
 use Rattle.stream.proofs.Streams.{ended-none, ended_some}
 use Rattle.stream.proofs.gather.ended.Goals as goal
 

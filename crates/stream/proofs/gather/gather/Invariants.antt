@@ -1,14 +1,9 @@
 -- `stream::gather::gather`: the list holds the numbers of the records read so far, and the rest of the stream is still to be read (`Held`).
 -- The measure is how many records may still come. Assumes nothing.
-use mathlib.Core.Path.{◌≡◌, sym, ap, ◌∙◌}
+use mathlib.Core.Path.{◌≡◌}
 use Prim.Native.Nat.{◌-◌, ◌≤◌}
-use native.Mathlib.Omega.{arith}
-use borrow.Author.Rules.{rules}
 use lib.ListN.{length}
-use Rattle.stream.specs.declared.gather.Gathered.{Gathered}
-use Rattle.stream.specs.Inside.{gathered}
-use Rattle.lists.proofs.RectLists.{length-put}
-use Rattle.stream.proofs.Streams.{Held, starts, good, bad, stops, full, ended-few}
+use Rattle.stream.proofs.Streams.{Held}
 use Rattle.stream.proofs.gather.gather.Given as goal
 
 abbrev pub invariant-loop-k : goal.invariant-loop-k

@@ -1,6 +1,5 @@
 -- `stream::gather::over`: at each return the number is the definition's, under the test that led there. Assumes nothing.
 use mathlib.Core.Path.{sym, ◌∙◌}
-use borrow.Author.Rules.{rules}
 use Rattle.stream.proofs.Streams.{over-whole, over-other}
 use Rattle.stream.proofs.gather.over.Goals as goal
 

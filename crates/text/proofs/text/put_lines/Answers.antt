@@ -1,12 +1,8 @@
 -- `text::text::put_lines`: the lines still to come, from the present place on into the present output, make the whole. The measure is what is left of
 -- the list. Assumes nothing.
-use mathlib.Core.Path.{◌≡◌, refl, sym, ◌∙◌}
-use Prim.Native.Nat.{◌+◌, ◌-◌, ◌*◌, ◌%◌, ◌≤◌}
+use mathlib.Core.Path.{refl, sym, ◌∙◌}
+use Prim.Native.Nat.{◌+◌, ◌*◌}
 use native.Mathlib.Omega.{arith}
-use borrow.Author.Rules.{rules}
-use lib.ListN.{length, drop}
-use Rattle.text.specs.Text.{lines_text}
-use Rattle.text.specs.Inside.{put}
 use Rattle.text.proofs.Lines.{lines_none, lines-turn, lines-all}
 use Rattle.text.proofs.text.put_lines.Goals as goal
 

@@ -1,10 +1,9 @@
 -- `text::text::put_number`: the k digits still to come, from the present place on into the present output, make the whole. The measure is k. Assumes
 -- nothing.
 use mathlib.Core.Path.{◌≡◌, refl, sym, ap, ◌∙◌}
-use Prim.Native.Nat.{ℕ, ◌+◌, ◌-◌, ◌≤◌}
+use Prim.Native.Nat.{ℕ, ◌+◌, ◌-◌}
 use native.Mathlib.Omega.{arith}
-use borrow.Author.Rules.{rules}
-use lib.ListN.{length, set, length-set}
+use lib.ListN.{set, length-set}
 use Rattle.text.specs.Text.{hex, number_text}
 use Rattle.text.specs.Inside.{put}
 use Rattle.text.proofs.Puts.{put-none, put-digit, put-no-digit}

@@ -1,13 +1,10 @@
 -- `text::text::put_number`: the k digits still to come, from the present place on into the present output, make the whole. The measure is k. Assumes
 -- nothing.
-use mathlib.Core.Path.{◌≡◌, refl, sym, ap, ◌∙◌}
-use Prim.Native.Nat.{ℕ, ◌+◌, ◌-◌, ◌≤◌}
-use native.Mathlib.Omega.{arith}
-use borrow.Author.Rules.{rules}
-use lib.ListN.{length, set, length-set}
-use Rattle.text.specs.Text.{hex, number_text}
+use mathlib.Core.Path.{◌≡◌}
+use Prim.Native.Nat.{◌+◌, ◌-◌, ◌≤◌}
+use lib.ListN.{length}
+use Rattle.text.specs.Text.{hex}
 use Rattle.text.specs.Inside.{put}
-use Rattle.text.proofs.Puts.{put-none, put-digit, put-no-digit}
 use Rattle.text.proofs.text.put_number.Given as goal
 
 abbrev pub invariant-loop-k : goal.invariant-loop-k

@@ -1,11 +1,9 @@
 -- `text::text::put_text`: what is still to come from the present place on, into the present output, makes the whole. The measure is what is left of the
 -- text. Assumes nothing.
-use mathlib.Core.Path.{◌≡◌, refl, sym, ◌∙◌}
-use Prim.Native.Nat.{◌+◌, ◌-◌, ◌≤◌}
+use mathlib.Core.Path.{refl, sym, ◌∙◌}
+use Prim.Native.Nat.{◌+◌}
 use native.Mathlib.Omega.{arith}
-use borrow.Author.Rules.{rules}
-use lib.ListN.{length, drop, length-set}
-use Rattle.text.specs.Inside.{put}
+use lib.ListN.{length-set}
 use Rattle.text.proofs.Puts.{put-none, put_byte, put_all}
 use Rattle.text.proofs.text.put_text.Goals as goal
 

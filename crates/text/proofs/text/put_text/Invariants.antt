@@ -1,12 +1,9 @@
 -- `text::text::put_text`: what is still to come from the present place on, into the present output, makes the whole. The measure is what is left of the
 -- text. Assumes nothing.
-use mathlib.Core.Path.{◌≡◌, refl, sym, ◌∙◌}
+use mathlib.Core.Path.{◌≡◌}
 use Prim.Native.Nat.{◌+◌, ◌-◌, ◌≤◌}
-use native.Mathlib.Omega.{arith}
-use borrow.Author.Rules.{rules}
-use lib.ListN.{length, drop, length-set}
+use lib.ListN.{length, drop}
 use Rattle.text.specs.Inside.{put}
-use Rattle.text.proofs.Puts.{put-none, put_byte, put_all}
 use Rattle.text.proofs.text.put_text.Given as goal
 
 abbrev pub invariant-loop-i : goal.invariant-loop-i

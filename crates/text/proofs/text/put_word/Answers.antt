@@ -2,7 +2,6 @@
 use mathlib.Core.Path.{sym, ap, ◌∙◌}
 use mathlib.Core.List.{List}
 use Prim.Native.Nat.{ℕ, ◌+◌}
-use borrow.Author.Rules.{rules}
 use lib.ListN.{set}
 use Rattle.text.proofs.Lines.{put_word}
 use Rattle.text.proofs.text.put_word.Goals as goal

@@ -1,6 +1,5 @@
 -- `text::text::write_pieces`: the test is that of whole pieces, at most 512. Assumes nothing.
 use mathlib.Core.Path.{refl, sym, ◌∙◌}
-use borrow.Author.Rules.{rules}
 use Rattle.text.specs.Answers.{wrote_pieces, left_pieces}
 use Rattle.text.proofs.Answered.{whole_is}
 use Rattle.text.proofs.text.write_pieces.Goals as goal

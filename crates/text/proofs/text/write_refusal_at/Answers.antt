@@ -1,5 +1,4 @@
 -- `text::text::write_refusal_at`: the words that are lent are those of the text. Assumes nothing.
-use borrow.Author.Rules.{rules}
 use Rattle.text.specs.Text.{refused_at_text}
 use Rattle.text.specs.Answers.{wrote_refusal_at, left_refusal_at}
 use Rattle.text.proofs.text.write_refusal_at.Goals as goal

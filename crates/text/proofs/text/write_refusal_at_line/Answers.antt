@@ -1,5 +1,4 @@
 -- `text::text::write_refusal_at_line`: the words that are lent are those of the text. Assumes nothing.
-use borrow.Author.Rules.{rules}
 use Rattle.text.specs.Text.{refused_at_line_text}
 use Rattle.text.specs.Answers.{wrote_refusal_at_line, left_refusal_at_line}
 use Rattle.text.proofs.text.write_refusal_at_line.Goals as goal

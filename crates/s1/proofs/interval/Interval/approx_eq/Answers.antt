@@ -1,5 +1,4 @@
 -- `s1::interval::Interval::approx_eq`: what is answered under the operands' refusal is the definition's value. Assumes nothing.
-use borrow.Author.Rules.{rules}
 use Rattle.s1.specs.Answers.{approx_eq}
 use Rattle.s1.proofs.interval.Interval.approx_eq.Goals as goal
 

@@ -1,5 +1,4 @@
 -- `s1::interval::Interval::contains_interval`: what is answered under the operands' refusal is the definition's value. Assumes nothing.
-use borrow.Author.Rules.{rules}
 use Rattle.s1.specs.Answers.{contains_interval}
 use Rattle.s1.proofs.interval.Interval.contains_interval.Goals as goal
 

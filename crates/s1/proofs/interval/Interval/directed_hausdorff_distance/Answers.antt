@@ -1,5 +1,4 @@
 -- `s1::interval::Interval::directed_hausdorff_distance`: what is answered under the operands' refusal is the definition's value. Assumes nothing.
-use borrow.Author.Rules.{rules}
 use Rattle.s1.specs.Answers.{directed_hausdorff_distance}
 use Rattle.s1.proofs.interval.Interval.directed_hausdorff_distance.Goals as goal
 

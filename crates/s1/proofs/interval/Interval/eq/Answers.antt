@@ -1,5 +1,4 @@
 -- `s1::interval::Interval::eq`: what is answered under the operands' refusal is the definition's value. Assumes nothing.
-use borrow.Author.Rules.{rules}
 use Rattle.s1.specs.Answers.{eq}
 use Rattle.s1.proofs.interval.Interval.eq.Goals as goal
 

@@ -1,7 +1,6 @@
 -- `s1::interval::Interval::from_point_pair`: at each return the answer is the definition's, under the tests that led there. Assumes nothing.
 use Rattle.s1.specs.Answers.{from_point_pair}
 use borrow.Author.Tests.{eq-eqb, ne_eqb}
-use borrow.Author.Rules.{rules}
 use Rattle.s1.proofs.interval.Interval.from_point_pair.Goals as goal
 
 pub returns-then-refusal-eq-ACCEPTED : goal.returns-then-refusal-eq-ACCEPTED

@@ -1,5 +1,4 @@
 -- `s1::interval::Interval::interior_intersects`: what is answered under the operands' refusal is the definition's value. Assumes nothing.
-use borrow.Author.Rules.{rules}
 use Rattle.s1.specs.Answers.{interior_intersects}
 use Rattle.s1.proofs.interval.Interval.interior_intersects.Goals as goal
 

@@ -1,5 +1,4 @@
 -- `s1::interval::Interval::intersects`: what is answered under the operands' refusal is the definition's value. Assumes nothing.
-use borrow.Author.Rules.{rules}
 use Rattle.s1.specs.Answers.{intersects}
 use Rattle.s1.proofs.interval.Interval.intersects.Goals as goal
 

@@ -1,7 +1,6 @@
 -- `s1::interval::Interval::is_empty`: at each return the answer is the definition's, under the tests that led there. Assumes nothing.
 use Rattle.s1.specs.Answers.{is_empty}
 use borrow.Author.Tests.{eq-eqb, ne_eqb}
-use borrow.Author.Rules.{rules}
 use Rattle.s1.proofs.interval.Interval.is_empty.Goals as goal
 
 pub returns-then-x-eq-ACCEPTED : goal.returns-then-x-eq-ACCEPTED

@@ -1,5 +1,4 @@
 -- `s1::interval::Interval::is_valid`: what is answered under the operands' refusal is the definition's value. Assumes nothing.
-use borrow.Author.Rules.{rules}
 use Rattle.s1.specs.Answers.{is_valid}
 use Rattle.s1.proofs.interval.Interval.is_valid.Goals as goal
 

@@ -1,7 +1,6 @@
 -- `s1::interval::Interval::new`: at each return the answer is the definition's, under the tests that led there. Assumes nothing.
 use Rattle.s1.specs.Answers.{«new»}
 use borrow.Author.Tests.{eq-eqb, ne_eqb}
-use borrow.Author.Rules.{rules}
 use Rattle.s1.proofs.interval.Interval.new.Goals as goal
 
 pub returns-then-x-eq-ACCEPTED : goal.returns-then-x-eq-ACCEPTED

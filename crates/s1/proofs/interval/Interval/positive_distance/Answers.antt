@@ -1,7 +1,6 @@
 -- `s1::interval::Interval::positive_distance`: at each return the answer is the definition's, under the tests that led there. Assumes nothing.
 use Rattle.s1.specs.Answers.{positive_distance}
 use borrow.Author.Tests.{eq-eqb, ne_eqb}
-use borrow.Author.Rules.{rules}
 use Rattle.s1.proofs.interval.Interval.positive_distance.Goals as goal
 
 pub returns-then-refusal-eq-ACCEPTED : goal.returns-then-refusal-eq-ACCEPTED
