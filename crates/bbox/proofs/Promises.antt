@@ -25,7 +25,7 @@ use Rattle.bbox_text.specs.Text.{number_text, text_of, wrote_box, left_box}
 use Rattle.bbox.proofs.Exactly as exactly
 use Rattle.bounds.proofs.Boxes as boxes
 use Rattle.bounds.proofs.Boxes.{InLimits}
-use Rattle.bbox.proofs.Given as goal
+use Rattle.bbox.proofs.Given as given
 use Rattle.bbox_text.proofs.Written as written
 use Rattle.bbox_text.proofs.Fewest as fewest
 use Rattle.bbox_text.proofs.Spaces as spaces
@@ -67,7 +67,7 @@ pub gives-exactly : (b : Bounds) → (givable b ≡ true) ↔ ((s : List ℕ) ×
 gives-exactly b = ((λ h. (text_of b, round.round_trip b h)), back)
   where
     back : (s : List ℕ) × (read_of s ≡ record { refusal = number accepted; value = b }) → givable b ≡ true
-    back (s, e) = subst (λ (a : Answer). givable a.value ≡ true) e (goal.reads-given s (ap (λ (a : Answer). a.refusal) e))
+    back (s, e) = subst (λ (a : Answer). givable a.value ≡ true) e (given.reads-given s (ap (λ (a : Answer). a.refusal) e))
 
 -- ---- "The writer uses the fewest digits, no spaces": the text is one of the grammar, and no text that reads as the box is shorter, nor one of any of its numbers
 pub written-array : (b : Bounds) → givable b ≡ true → Array (text_of b) b
@@ -143,7 +143,7 @@ longest-text = (room.long, room.long-given, room.long-room)
 
 -- ---- "a refused reading answers four zeros, a refused writing writes nothing"; an accepted writing leaves the text, and every byte after it as it was
 pub four-zeros : (s : List ℕ) → ((read_of s).refusal ≡ 0 → ⊥) → read_of s ≡ zeros_under (read_of s).refusal
-four-zeros s h = goal.zeros s h
+four-zeros s h = given.zeros s h
 
 pub writes_nothing : (b : Bounds) (out : List ℕ) → ((wrote_box b (length out)).refusal ≡ 0 → ⊥) → left_box b out ≡ out
 writes_nothing b out h = answers.box-unaltered b out h

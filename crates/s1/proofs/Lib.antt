@@ -13,3 +13,4 @@ pub mod Measures
 pub mod Closes
 pub mod Refusals
 pub mod Promises
+pub mod RestLaws

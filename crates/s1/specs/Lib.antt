@@ -4,3 +4,4 @@ pub mod Answers
 pub mod Places
 pub mod Refusals
 pub mod Devices
+pub mod Rests

@@ -21,6 +21,7 @@ ghost use Rattle.s1.specs.Circle.{is_valid, is_full, is_empty, is_inverted, is_p
 ghost use Rattle.s1.specs.Circle.{positive_distance, «new», seam, from_point_pair, invert, center, len, union, intersection, moved, expanded, complement, complement_center, distance_if_held, directed_hausdorff_distance, add};
 
 use crate::interval::Interval;
+use crate::rests::rest;
 use consts::{DBL_EPSILON, NEG_PI, PI, TURN};
 
 const MINUS_ONE: f64 = -1.0;
@@ -412,8 +413,8 @@ pub fn directed_hausdorff_distance(i: Interval, y: Interval) -> f64
 fn ends_near(i: Interval, other: Interval, max_error: f64) -> bool
     ensures { result ≡ near_ends i other max_error }
 {
-    (order::abs((other.lo - i.lo) % TURN) <= max_error)
-        & (order::abs((other.hi - i.hi) % TURN) <= max_error)
+    (order::abs(rest(other.lo - i.lo)) <= max_error)
+        & (order::abs(rest(other.hi - i.hi)) <= max_error)
         & (order::abs(len(i) - len(other)) <= 2.0 * max_error)
 }
 

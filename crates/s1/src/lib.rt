@@ -6,3 +6,4 @@
 pub mod circle;
 pub mod interval;
 mod reading;
+mod rests;

@@ -4,4 +4,4 @@ use Rattle.s1.proofs.circle.ends_near.Goals as goal
 
 pub returns : goal.returns
 unfolding near_ends
-returns c = simp (← c.abs-3.ensures, ← c.len-2.ensures, ← c.len.ensures, ← c.abs-2.ensures, ← c.abs.ensures)
+returns c = simp (← c.abs-3.ensures, ← c.len-2.ensures, ← c.len.ensures, ← c.abs-2.ensures, ← c.rest-2.ensures, ← c.abs.ensures, ← c.rest.ensures)
