@@ -4,8 +4,8 @@
  * and not proved: the arithmetic of the logic rounds to nearest, keeps subnormals and knows no traps, so that a proved
  * function could only answer 0.
  *
- * It reads MXCSR, which rules the arithmetic of SSE. The library has no other, and glibc's fmod works on whole numbers;
- * so the control word of the x87 unit plays no part. ./capi-test looks for x87 instructions in the archive. */
+ * It reads MXCSR, which rules the arithmetic of SSE. The library has no other, so the control word
+ * of the x87 unit plays no part. ./capi-test looks for x87 instructions in the archive. */
 #include "sjurnabel.h"
 
 #include <xmmintrin.h>

@@ -50,15 +50,15 @@
  * function keeps a pointer.
  *
  * THREADS. There is no state: any function may be called from any number of threads at once, as long as what one
- * call writes is not read or written by another. The largest need of stack is that of
- * sjurnabel_common_region, about 20 kB.
+ * call writes is not read or written by another. The largest needs of stack are those of sjurnabel_circle_approx_eq and
+ * sjurnabel_circle_approx_eq_by on numbers that they refuse, about 33 kB, and that of sjurnabel_common_region, about
+ * 26 kB.
  *
  * VERSIONS. A change that callers must know, of a layout or of what an answer means, raises the major number and with
  * it the shared object's name, libsjurnabel.so.MAJOR: a program starts only with a library of the major number that it
  * was linked with. An addition raises the minor number, anything else the patch.
  *
- * The calling convention and the layouts are those of x86-64 Linux. A program over the archive is linked with -lm;
- * the shared object brings it along.
+ * The calling convention and the layouts are those of x86-64 Linux. The library needs no other than the C library.
  */
 #ifndef SJURNABEL_H
 #define SJURNABEL_H

@@ -1,5 +1,5 @@
 -- What is left of a number once another is taken off as often as it goes, both whole numbers of units (consts, specs/Remainder.antt): what the functions of
--- src/rests.rt promise each other. Nothing in it needs to be believed: C's `fmod` is IEEE 754's truncated remainder, `rem` of the kit. Definitions only.
+-- src/rests.rt promise each other. Nothing in it needs to be believed. C's `fmod`, the exact remainder that truncates, is `rem` of the kit. Definitions only.
 use Rattle.std.specs.Prelude.{◌≡◌, T, ℕ, ◌%◌, ◌<◌, false, Float, ℤ, nat_abs}
 use Rattle.std.specs.Float.{fin, binary64}
 use Rattle.std.specs.Float.Ieee.{fits, rem}
