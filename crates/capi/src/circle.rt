@@ -1,7 +1,10 @@
 // Intervals of the circle, and the remainder, which brings a number onto it.
 ghost use Rattle.std.specs.Prelude.{◌≡◌};
 ghost use Rattle.consts.specs.Remainder.{remainder};
-ghost use Rattle.s1.specs.Answers.{«new», from_line, from_point_pair, is_valid, is_full, is_empty, is_inverted, center, len, to_line, fast_contains, contains, contains_interval, interior_contains, interior_contains_interval, intersects, interior_intersects, eq, approx_eq, approx_eq_by, invert, complement, union, intersection, expanded, add, positive_distance, complement_center, directed_hausdorff_distance};
+ghost use Rattle.s1.specs.Answers.{«new», from_line, from_point_pair, is_valid, is_full, is_empty, is_inverted, center, len, to_line, fast_contains};
+ghost use Rattle.s1.specs.Answers.{contains, contains_interval, interior_contains, interior_contains_interval, intersects, interior_intersects, eq};
+ghost use Rattle.s1.specs.Answers.{approx_eq, approx_eq_by, invert, complement, union, intersection, expanded, add, positive_distance};
+ghost use Rattle.s1.specs.Answers.{complement_center, directed_hausdorff_distance};
 
 use consts::{Number, YesNo};
 use r1::interval::{Answer as LineAnswer, Interval as Line};

@@ -1,6 +1,8 @@
 // Intervals of the line of numbers, such as latitudes.
 ghost use Rattle.std.specs.Prelude.{◌≡◌};
-ghost use Rattle.r1.specs.Answers.{«new», from_point, from_point_pair, is_empty, center, len, contains, contains_interval, interior_contains, interior_contains_interval, intersects, interior_intersects, eq, approx_eq, approx_eq_by, union, intersection, expanded, add, clamp_point, directed_hausdorff_distance};
+ghost use Rattle.r1.specs.Answers.{«new», from_point, from_point_pair, is_empty, center, len, contains, contains_interval, interior_contains};
+ghost use Rattle.r1.specs.Answers.{interior_contains_interval, intersects, interior_intersects, eq, approx_eq, approx_eq_by, union, intersection};
+ghost use Rattle.r1.specs.Answers.{expanded, add, clamp_point, directed_hausdorff_distance};
 ghost use Rattle.capi.specs.Records.{distance_back};
 
 use consts::{Number, YesNo};

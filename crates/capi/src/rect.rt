@@ -1,6 +1,8 @@
 // Rectangles, and whether a point is valid.
 ghost use Rattle.std.specs.Prelude.{◌≡◌};
-ghost use Rattle.s2.specs.Answers.{from_lat_lng, from_center_size, from_point_pair, is_valid, is_empty, is_full, is_point, is_inverted, vertex, center, size, contains, interior_contains, contains_lat_lng, interior_contains_lat_lng, intersects, interior_intersects, eq, approx_eq, approx_eq_by, union, intersection, expanded, polar_closure, add, is_lat_lng};
+ghost use Rattle.s2.specs.Answers.{from_lat_lng, from_center_size, from_point_pair, is_valid, is_empty, is_full, is_point, is_inverted, vertex};
+ghost use Rattle.s2.specs.Answers.{center, size, contains, interior_contains, contains_lat_lng, interior_contains_lat_lng, intersects};
+ghost use Rattle.s2.specs.Answers.{interior_intersects, eq, approx_eq, approx_eq_by, union, intersection, expanded, polar_closure, add, is_lat_lng};
 
 use consts::YesNo;
 use s2::latlng::LatLng;

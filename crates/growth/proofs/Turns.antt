@@ -5,9 +5,11 @@ use mathlib.Core.Bool.{Bool, true, false, not}
 use mathlib.Core.List.{List}
 use Prim.Native.Nat.{ℕ, suc, ◌+◌, ◌<◌, ◌≤◌}
 use native.Mathlib.Omega.{arith}
-use lib.ListN.{length, drop}
+use lib.ListN.{length, drop, get_or}
+use lib.Dec.{T}
 use borrow.Author.Tests.{eq-eqb, ne_eqb}
-use lib.Ieee.{Float}
+use lib.Ieee.{Float, binary64, fits, nan}
+use denote.Floats.{is_true}
 use Rattle.consts.specs.Refusal.{number, bad_list}
 use Rattle.s2.specs.declared.latlng.LatLng.{LatLng}
 use Rattle.s2.specs.declared.rect.Rect.{Rect}
@@ -59,6 +61,14 @@ module _ (r : Rect) (l : List Float) (w : whole 2 4096 l ≡ true) (x : One) (e 
 -- ---- the calls
 pub no-calls-yet : {l : List Float} {q : Rect} → Growing l 0 q → SoFar l q q 0 0
 no-calls-yet {l} g = record { box = refl; bad = omega arith; few = omega arith; left = g }
+
+-- a point that is not passed over stands whole in the list
+pub room : (l : List Float) (i : ℕ) {s q : Rect} {n : ℕ} → i < length l → SoFar l s q n i → i + 1 < length l
+room l i h a = omega (arith, h, a.left.at-point, a.left.whole)
+
+-- and it is of two doubles, where all numbers of the list are doubles
+pub double-here : (l : List Float) (i : ℕ) → ((k : ℕ) → T (fits binary64 (get_or l k nan))) → DoublePoint (point_at l i)
+double-here l i fit = record { lat-double = is_true _ (fit i); lng-double = is_true _ (fit (i + 1)) }
 
 -- points that are held are passed over
 pub passed_over : {l : List Float} {s q : Rect} {n i j : ℕ} → SoFar l s q n i → HeldUntil l i q j → SoFar l s q n j

@@ -18,7 +18,9 @@
 // been read is in line.rt.
 // ported from src/r1/interval.rs of s2 0.2.0, changed: by value, with refusals; no printing, no serde.
 ghost use Rattle.std.specs.Prelude.{◌≡◌};
-ghost use Rattle.r1.specs.Answers.{line_answer, empty_under, interval, «new», from_point, from_point_pair, is_empty, center, len, contains, contains_interval, interior_contains, interior_contains_interval, intersects, interior_intersects, intersection, clamp_point, expanded, union, approx_eq, approx_eq_by, IsHausdorff, add, eq};
+ghost use Rattle.r1.specs.Answers.{line_answer, empty_under, interval, «new», from_point, from_point_pair, is_empty, center, len, contains};
+ghost use Rattle.r1.specs.Answers.{contains_interval, interior_contains, interior_contains_interval, intersects, interior_intersects, intersection};
+ghost use Rattle.r1.specs.Answers.{clamp_point, expanded, union, approx_eq, approx_eq_by, IsHausdorff, add, eq};
 
 use crate::line;
 use crate::reading::{read_one, read_two, read_with};

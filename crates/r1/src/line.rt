@@ -17,7 +17,9 @@
 // ported from src/r1/interval.rs of s2 0.2.0, changed: functions of intervals by value, with
 // `f64::min`, `max` and `abs` written out.
 ghost use Rattle.std.specs.Prelude.{◌≡◌};
-ghost use Rattle.r1.specs.Line.{from_point_pair, is_empty, center, len, contains, contains_interval, interior_contains, interior_contains_interval, intersects, interior_intersects, intersection, clamp_point, expanded, union, approx_eq_by, directed_hausdorff_distance, add, eq};
+ghost use Rattle.r1.specs.Line.{from_point_pair, is_empty, center, len, contains, contains_interval, interior_contains, interior_contains_interval};
+ghost use Rattle.r1.specs.Line.{intersects, interior_intersects, intersection, clamp_point, expanded, union, approx_eq_by};
+ghost use Rattle.r1.specs.Line.{directed_hausdorff_distance, add, eq};
 
 use crate::interval::{Distance, Interval};
 

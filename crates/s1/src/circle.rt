@@ -17,7 +17,8 @@
 // ported from src/s1/interval.rs of s2 0.2.0, changed: functions of intervals by value, with
 // `f64::max` and `abs` written out and radians for `Angle`.
 ghost use Rattle.std.specs.Prelude.{◌≡◌, cond};
-ghost use Rattle.s1.specs.Circle.{is_valid, is_full, is_empty, is_inverted, is_point, fast_contains, contains, contains_interval, interior_contains, interior_contains_interval, intersects, inside_meets, interior_intersects, near_ends, approx_eq_by, eq};
+ghost use Rattle.s1.specs.Circle.{is_valid, is_full, is_empty, is_inverted, is_point, fast_contains, contains, contains_interval, interior_contains};
+ghost use Rattle.s1.specs.Circle.{interior_contains_interval, intersects, inside_meets, interior_intersects, near_ends, approx_eq_by, eq};
 ghost use Rattle.s1.specs.Circle.{positive_distance, «new», seam, from_point_pair, invert, center, len, union, intersection, moved, expanded, complement, complement_center, distance_if_held, directed_hausdorff_distance, add};
 
 use crate::interval::Interval;

@@ -19,7 +19,8 @@
 // ported from src/s1/interval.rs of s2 0.2.0, changed: by value, with refusals; no printing, no serde.
 ghost use Rattle.std.specs.Prelude.{◌≡◌};
 ghost use Rattle.s1.specs.Answers.{is_valid, is_full, is_empty, is_inverted, fast_contains, contains, contains_interval, interior_contains, interior_contains_interval, intersects, interior_intersects, approx_eq, approx_eq_by, eq};
-ghost use Rattle.s1.specs.Answers.{circle_answer, empty_under, «new», from_line, to_line, positive_distance, from_point_pair, invert, center, len, union, intersection, expanded, complement, complement_center, directed_hausdorff_distance, add};
+ghost use Rattle.s1.specs.Answers.{circle_answer, empty_under, «new», from_line, to_line, positive_distance, from_point_pair, invert, center, len};
+ghost use Rattle.s1.specs.Answers.{union, intersection, expanded, complement, complement_center, directed_hausdorff_distance, add};
 
 use crate::circle;
 use crate::reading::{

@@ -6,7 +6,10 @@
 // ported from src/s2/rect.rs of s2 0.2.0, changed: by value, with refusals; nothing that goes through a
 // point of the sphere, a cap, a cell or an edge; no area, centroid, distance, degrees or printing.
 ghost use Rattle.std.specs.Prelude.{◌≡◌};
-ghost use Rattle.s2.specs.Answers.{rect_answer, empty_under, rectangle, lat_lng_answer, zeros_under, from_lat_lng, from_center_size, from_point_pair, is_valid, is_empty, is_full, is_point, is_inverted, vertex, center, size, expanded, polar_closure, union, intersection, intersects, interior_intersects, contains, interior_contains, contains_lat_lng, interior_contains_lat_lng, add, eq, approx_eq, approx_eq_by};
+ghost use Rattle.s2.specs.Answers.{rect_answer, empty_under, rectangle, lat_lng_answer, zeros_under, from_lat_lng, from_center_size, from_point_pair};
+ghost use Rattle.s2.specs.Answers.{is_valid, is_empty, is_full, is_point, is_inverted, vertex, center, size, expanded, polar_closure, union};
+ghost use Rattle.s2.specs.Answers.{intersection, intersects, interior_intersects, contains, interior_contains, contains_lat_lng};
+ghost use Rattle.s2.specs.Answers.{interior_contains_lat_lng, add, eq, approx_eq, approx_eq_by};
 
 use crate::latlng::{LatLng, NORTH_POLE_LAT, SOUTH_POLE_LAT};
 use crate::reading::{

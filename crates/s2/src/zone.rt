@@ -5,7 +5,10 @@
 // ported from src/s2/rect.rs of s2 0.2.0, changed: functions of rectangles by value, with radians for
 // `Angle`; a latlng at longitude -PI makes [PI, PI], and an empty rectangle is its own polar closure.
 ghost use Rattle.std.specs.Prelude.{◌≡◌};
-ghost use Rattle.s2.specs.Zone.{EMPTY, latitude, is_lat_lng, valid_latitudes, alike, like_parts, is_valid, from_lat_lng, from_point_pair, is_empty, is_full, is_point, is_inverted, vertex, center, size, polar_closure, expanded, from_center_size, contains_lat_lng, interior_contains_lat_lng, add, contains, interior_contains, intersects, interior_intersects, union, intersection, approx_eq_by, eq};
+ghost use Rattle.s2.specs.Zone.{EMPTY, latitude, is_lat_lng, valid_latitudes, alike, like_parts, is_valid, from_lat_lng, from_point_pair, is_empty};
+ghost use Rattle.s2.specs.Zone.{is_full, is_point, is_inverted, vertex, center, size, polar_closure, expanded, from_center_size, contains_lat_lng};
+ghost use Rattle.s2.specs.Zone.{interior_contains_lat_lng, add, contains, interior_contains, intersects, interior_intersects, union, intersection};
+ghost use Rattle.s2.specs.Zone.{approx_eq_by, eq};
 
 use crate::latlng::{LatLng, NORTH_POLE_LAT, SOUTH_POLE_LAT};
 use crate::rect::{Rect, VALID_RECT_LAT_RANGE};

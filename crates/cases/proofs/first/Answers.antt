@@ -14,11 +14,17 @@ placed r s e = (e, subst (λ x. Lies x (length s)) (sym e) (lies s))
 
 pub returns-then-n-le-LABEL : goal.returns-then-n-le-LABEL
 unfolding end_of
-returns-then-n-le-LABEL c = record { value = (placed _ _ (c.no_case.ensures ∙ sym (cut_short _ (omega arith)))).0; lies = (placed _ _ (c.no_case.ensures ∙ sym (cut_short _ (omega arith)))).1 }
+returns-then-n-le-LABEL c =
+    let both = placed _ c.args.s.now (c.no_case.ensures ∙ sym (cut_short c.args.s.now (omega arith))) in
+    record { value = both.0; lies = both.1 }
 
 pub returns-then-n-end : goal.returns-then-n-end
 unfolding end_of
-returns-then-n-end c = record { value = (placed _ _ (c.no_case-then-n-end.ensures ∙ sym (cut_short _ (omega (arith, c.six_at.ensures.value, c.two_at-line.ensures.value))))).0; lies = (placed _ _ (c.no_case-then-n-end.ensures ∙ sym (cut_short _ (omega (arith, c.six_at.ensures.value, c.two_at-line.ensures.value))))).1 }
+returns-then-n-end c =
+    let both = placed _ c.args.s.now (c.no_case-then-n-end.ensures ∙ sym (cut_short c.args.s.now (omega (arith, c.six_at.ensures.value, c.two_at-line.ensures.value)))) in
+    record { value = both.0; lies = both.1 }
 
 pub returns : goal.returns
-returns c = record { value = (placed _ _ (whole-case _ _ _ c.two_at-line.ensures.value c.six_at.ensures.value (omega arith))).0; lies = (placed _ _ (whole-case _ _ _ c.two_at-line.ensures.value c.six_at.ensures.value (omega arith))).1 }
+returns c =
+    let both = placed _ c.args.s.now (whole-case c.args.s.now _ _ c.two_at-line.ensures.value c.six_at.ensures.value (omega arith)) in
+    record { value = both.0; lies = both.1 }

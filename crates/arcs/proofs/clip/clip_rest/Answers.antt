@@ -14,7 +14,8 @@ returns-then-is_empty-c c =
     let found : List Interval = take w.n (zip w.lo.now w.hi.now) in
     record {
       is = c.put.ensures.is
-          ∙ clip-open found w.a c.is_empty.result c.cut_all-c.result.«open» c.is_empty.ensures c.cut_all-c.ensures.opens c.cut_all-c.result.end c.sooner-e.result (take c.cut_all-c.result.n (zip c.cut_all-c.new.lo c.cut_all-c.new.hi)) c.cut_all-c.ensures.end_is c.cut_all-c.ensures.is c.sooner-e.ensures c.if-is_empty-c.true;
+          ∙ clip-open found w.a c.is_empty.result c.cut_all-c.result.«open» c.is_empty.ensures c.cut_all-c.ensures.opens
+          c.cut_all-c.result.end c.sooner-e.result (take c.cut_all-c.result.n (zip c.cut_all-c.new.lo c.cut_all-c.new.hi)) c.cut_all-c.ensures.end_is c.cut_all-c.ensures.is c.sooner-e.ensures c.if-is_empty-c.true;
       few = omega (arith, c.put.ensures.few, c.cut_all-c.ensures.few);
     }
 

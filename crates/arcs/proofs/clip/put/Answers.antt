@@ -30,8 +30,24 @@ loop-i-preserved c =
     let b : n ≤ length c.loop-i.lo = omega arith in
     let q : length c.loop-i.lo ≡ length c.loop-i.hi = c.loop-i.invariant.4 in
     elim c.if-moved-c.branch [
-      | then-moved-c w ↦ rw (w.lo-is, w.hi-is, w.c-is, w.moved-is) (put-move c.loop-i.lo c.loop-i.hi n c.loop-i.i h b q c.loop-i.moved c.loop-i.c w.if-moved-c.true ∙ c.loop-i.invariant.0, omega arith, omega arith, simp length-set c.loop-i.invariant.3, simp length-set c.loop-i.invariant.4, simp length-set c.loop-i.invariant.5, simp length-set c.loop-i.invariant.6)
-      | else-moved-c+else-not-y-c w ↦ rw (w.lo-is, w.hi-is, w.c-is, w.moved-is) (put-past c.loop-i.lo c.loop-i.hi n c.loop-i.i h b q c.loop-i.moved c.loop-i.c w.if-moved-c.false w.if-not-y-c.false ∙ c.loop-i.invariant.0, omega arith, omega arith, c.loop-i.invariant.3, c.loop-i.invariant.4, c.loop-i.invariant.5, c.loop-i.invariant.6)
+      | then-moved-c w ↦ rw (w.lo-is, w.hi-is, w.c-is, w.moved-is) (
+        put-move c.loop-i.lo c.loop-i.hi n c.loop-i.i h b q c.loop-i.moved c.loop-i.c w.if-moved-c.true ∙ c.loop-i.invariant.0,
+        omega arith,
+        omega arith,
+        simp length-set c.loop-i.invariant.3,
+        simp length-set c.loop-i.invariant.4,
+        simp length-set c.loop-i.invariant.5,
+        simp length-set c.loop-i.invariant.6,
+      )
+      | else-moved-c+else-not-y-c w ↦ rw (w.lo-is, w.hi-is, w.c-is, w.moved-is) (
+        put-past c.loop-i.lo c.loop-i.hi n c.loop-i.i h b q c.loop-i.moved c.loop-i.c w.if-moved-c.false w.if-not-y-c.false ∙ c.loop-i.invariant.0,
+        omega arith,
+        omega arith,
+        c.loop-i.invariant.3,
+        c.loop-i.invariant.4,
+        c.loop-i.invariant.5,
+        c.loop-i.invariant.6,
+      )
     ]
 
 pub returns : goal.returns

@@ -32,8 +32,13 @@ loop-k-preserved c =
     let o = subst (λ (r : Bool). Spared a c.loop-k.b r) (and_l c.spares.result c.passes.result t) c.spares.ensures in
     let u = subst (λ (r : Bool). Passed a c.loop-k.x r) (and_r c.spares.result c.passes.result t) c.passes.ensures in
     let room = under r.pieces c.loop-k.invariant.1 in
-    let h = c.loop-k-test.true in
-    (swept-turn w.west.now w.east.now c.loop-k.lo c.loop-k.hi w.first w.n w.start c.loop-k.k c.loop-k.f c.loop-k.b c.loop-k.x h r.arcs r.arcs-even room c.loop-k.invariant.2 c.loop-k.invariant.0 o u c.max.result c.max.ensures c.past-f.result c.past-f.ensures, simp length-set c.loop-k.invariant.1, simp length-set c.loop-k.invariant.2, simp length-set c.loop-k.invariant.3)
+    let h = c.loop-k-test.true in (
+      swept-turn w.west.now w.east.now c.loop-k.lo c.loop-k.hi w.first w.n w.start c.loop-k.k c.loop-k.f c.loop-k.b c.loop-k.x h r.arcs r.arcs-even room
+          c.loop-k.invariant.2 c.loop-k.invariant.0 o u c.max.result c.max.ensures c.past-f.result c.past-f.ensures,
+      simp length-set c.loop-k.invariant.1,
+      simp length-set c.loop-k.invariant.2,
+      simp length-set c.loop-k.invariant.3,
+    )
 
 pub returns : goal.returns
 returns c = c.loop-k.invariant.0

@@ -26,4 +26,16 @@ returns c =
     (grows-both (grows-as c.put_element-east.ensures.grows (ap (λ (k : ℤ). element_text k 44) (to_z-of_z w64 b.east e)))
     (grows-as c.put_element.ensures.grows (ap (λ (k : ℤ). element_text k 93) (to_z-of_z w64 b.north n)))))))
     refl
-    (omega (arith, bracket.long, bracket.size, c.put_element-west.ensures.n_bound, c.put_element-west.ensures.grows.size, c.put_element-south.ensures.n_bound, c.put_element-south.ensures.grows.size, c.put_element-east.ensures.n_bound, c.put_element-east.ensures.grows.size, c.put_element.ensures.n_bound, c.put_element.ensures.grows.size))
+    (omega (
+      arith,
+      bracket.long,
+      bracket.size,
+      c.put_element-west.ensures.n_bound,
+      c.put_element-west.ensures.grows.size,
+      c.put_element-south.ensures.n_bound,
+      c.put_element-south.ensures.grows.size,
+      c.put_element-east.ensures.n_bound,
+      c.put_element-east.ensures.grows.size,
+      c.put_element.ensures.n_bound,
+      c.put_element.ensures.grows.size,
+    ))

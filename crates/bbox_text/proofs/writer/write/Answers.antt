@@ -16,7 +16,13 @@ pub slice_bounds-write_text-end : goal.slice_bounds-write_text-end
 slice_bounds-write_text-end c = sym (length-take-le c.text_of-t.result.n c.text_of-t.result.bytes c.text_of-t.ensures.room)
 
 pub returns-then-can_give : goal.returns-then-can_give
-returns-then-can_give c = record { value = (let a = c.args in written a.b a.out.now c.text_of-t.result c.write_text.result _ (sym c.can_give.ensures ∙ c.if-can_give.true) c.text_of-t.ensures c.write_text.ensures.value c.write_text.ensures.out_after).0; out_after = (let a = c.args in written a.b a.out.now c.text_of-t.result c.write_text.result _ (sym c.can_give.ensures ∙ c.if-can_give.true) c.text_of-t.ensures c.write_text.ensures.value c.write_text.ensures.out_after).1 }
+returns-then-can_give c =
+    let a = c.args in
+    let both = written a.b a.out.now c.text_of-t.result c.write_text.result _ (sym c.can_give.ensures ∙ c.if-can_give.true)
+    c.text_of-t.ensures c.write_text.ensures.value c.write_text.ensures.out_after in
+    record { value = both.0; out_after = both.1 }
 
 pub returns : goal.returns
-returns c = record { value = (not-given c.args.b c.args.out.now (sym c.can_give.ensures ∙ c.if-can_give.false)).0; out_after = (not-given c.args.b c.args.out.now (sym c.can_give.ensures ∙ c.if-can_give.false)).1 }
+returns c =
+    let both = not-given c.args.b c.args.out.now (sym c.can_give.ensures ∙ c.if-can_give.false) in
+    record { value = both.0; out_after = both.1 }

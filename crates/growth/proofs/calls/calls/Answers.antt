@@ -11,7 +11,7 @@ use Rattle.s2.specs.declared.rect.Rect.{Rect}
 use Rattle.s2.specs.Places.{DoublePoint}
 use Rattle.lists.specs.Points.{point_at}
 use Rattle.growth.specs.Devices.{SoFar}
-use Rattle.growth.proofs.Turns.{no-calls-yet, passed_over, enlarged, counted, all_made}
+use Rattle.growth.proofs.Turns.{no-calls-yet, passed_over, room, double-here, enlarged, counted, all_made}
 use Rattle.growth.proofs.calls.calls.Goals as goal
 
 pub loop-i-init : goal.loop-i-init
@@ -22,57 +22,42 @@ held_until-i-requires c = c.loop-i.invariant.0.left
 
 pub overflow_add-i : goal.overflow_add-i
 overflow_add-i c =
-    let list : List Float = c.args.points.now in
-    let so_far : SoFar list c.args.start c.loop-i.q c.loop-i.refused c.held_until-i.result = passed_over c.loop-i.invariant.0 c.held_until-i.ensures in
-    let a = so_far in omega (arith, a.left.at-point, a.left.whole)
+    let here = room c.args.points.now c.held_until-i.result (omega arith) (passed_over c.loop-i.invariant.0 c.held_until-i.ensures) in
+    omega (arith, here)
 
 pub loop-i-smaller-then-p-eq-ACCEPTED : goal.loop-i-smaller-then-p-eq-ACCEPTED
 loop-i-smaller-then-p-eq-ACCEPTED c =
-    let list : List Float = c.args.points.now in
-    let so_far : SoFar list c.args.start c.loop-i.q c.loop-i.refused c.held_until-i.result = passed_over c.loop-i.invariant.0 c.held_until-i.ensures in
-    let whole-point : c.held_until-i.result + 1 < length list = let a = so_far in omega (arith, a.left.at-point, a.left.whole) in
-    omega (arith, c.held_until-i.ensures.from, whole-point)
+    let here = room c.args.points.now c.held_until-i.result (omega arith) (passed_over c.loop-i.invariant.0 c.held_until-i.ensures) in
+    omega (arith, c.held_until-i.ensures.from, here)
 
 pub loop-i-preserved-then-p-eq-ACCEPTED : goal.loop-i-preserved-then-p-eq-ACCEPTED
 loop-i-preserved-then-p-eq-ACCEPTED c =
-    let list : List Float = c.args.points.now in
-    let so_far : SoFar list c.args.start c.loop-i.q c.loop-i.refused c.held_until-i.result = passed_over c.loop-i.invariant.0 c.held_until-i.ensures in
-    let whole-point : c.held_until-i.result + 1 < length list = let a = so_far in omega (arith, a.left.at-point, a.left.whole) in
-    let doubles : DoublePoint (point_at list c.held_until-i.result) = let fit = c.shared_slice_known-1.given in let i = c.held_until-i.result in record { lat-double = is_true _ (fit i); lng-double = is_true _ (fit (i + 1)) } in
-    let l = list in
-    let n = c.loop-i.refused in
-    let made = enlarged so_far whole-point doubles c.read_point_at-p.result c.read_point_at-p.ensures c.if-p-eq-ACCEPTED.true in
-    (subst (λ (r : Rect). SoFar l c.args.start r n (c.held_until-i.result + 2)) (sym c.add-q.ensures) made, refl)
+    let so_far = passed_over c.loop-i.invariant.0 c.held_until-i.ensures in
+    let double = double-here c.args.points.now c.held_until-i.result c.shared_slice_known-1.given in
+    let made = enlarged so_far (room c.args.points.now c.held_until-i.result (omega arith) so_far) double c.read_point_at-p.result c.read_point_at-p.ensures c.if-p-eq-ACCEPTED.true in
+    (subst (λ (r : Rect). SoFar c.args.points.now c.args.start r c.loop-i.refused (c.held_until-i.result + 2)) (sym c.add-q.ensures) made, refl)
 
 pub overflow_add-refused : goal.overflow_add-refused
 overflow_add-refused c =
-    let list : List Float = c.args.points.now in
-    let so_far : SoFar list c.args.start c.loop-i.q c.loop-i.refused c.held_until-i.result = passed_over c.loop-i.invariant.0 c.held_until-i.ensures in
-    let a = so_far in omega (arith, a.few, a.left.up_to)
+    let so_far = passed_over c.loop-i.invariant.0 c.held_until-i.ensures in
+    omega (arith, so_far.few, so_far.left.up_to)
 
 pub loop-i-smaller-else-p-eq-ACCEPTED : goal.loop-i-smaller-else-p-eq-ACCEPTED
 loop-i-smaller-else-p-eq-ACCEPTED c =
-    let list : List Float = c.args.points.now in
-    let so_far : SoFar list c.args.start c.loop-i.q c.loop-i.refused c.held_until-i.result = passed_over c.loop-i.invariant.0 c.held_until-i.ensures in
-    let whole-point : c.held_until-i.result + 1 < length list = let a = so_far in omega (arith, a.left.at-point, a.left.whole) in
-    omega (arith, c.held_until-i.ensures.from, whole-point)
+    let here = room c.args.points.now c.held_until-i.result (omega arith) (passed_over c.loop-i.invariant.0 c.held_until-i.ensures) in
+    omega (arith, c.held_until-i.ensures.from, here)
 
 pub loop-i-preserved-else-p-eq-ACCEPTED : goal.loop-i-preserved-else-p-eq-ACCEPTED
 loop-i-preserved-else-p-eq-ACCEPTED c =
-    let list : List Float = c.args.points.now in
-    let so_far : SoFar list c.args.start c.loop-i.q c.loop-i.refused c.held_until-i.result = passed_over c.loop-i.invariant.0 c.held_until-i.ensures in
-    let whole-point : c.held_until-i.result + 1 < length list = let a = so_far in omega (arith, a.left.at-point, a.left.whole) in
-    let doubles : DoublePoint (point_at list c.held_until-i.result) = let fit = c.shared_slice_known-1.given in let i = c.held_until-i.result in record { lat-double = is_true _ (fit i); lng-double = is_true _ (fit (i + 1)) } in
-    (counted so_far whole-point doubles c.read_point_at-p.result c.read_point_at-p.ensures c.if-p-eq-ACCEPTED.false, refl)
+    let so_far = passed_over c.loop-i.invariant.0 c.held_until-i.ensures in
+    let double = double-here c.args.points.now c.held_until-i.result c.shared_slice_known-1.given in
+    (counted so_far (room c.args.points.now c.held_until-i.result (omega arith) so_far) double c.read_point_at-p.result c.read_point_at-p.ensures c.if-p-eq-ACCEPTED.false, refl)
 
 pub loop-i-smaller : goal.loop-i-smaller
 loop-i-smaller c = omega (arith, c.held_until-i.ensures.from)
 
 pub loop-i-preserved : goal.loop-i-preserved
-loop-i-preserved c =
-    let list : List Float = c.args.points.now in
-    let so_far : SoFar list c.args.start c.loop-i.q c.loop-i.refused c.held_until-i.result = passed_over c.loop-i.invariant.0 c.held_until-i.ensures in
-    (so_far, refl)
+loop-i-preserved c = (passed_over c.loop-i.invariant.0 c.held_until-i.ensures, refl)
 
 pub returns : goal.returns
 returns c = all_made c.loop-i.invariant.0 (omega arith)

@@ -7,6 +7,7 @@ use denote.Floats.{is_true}
 use Rattle.s2.specs.Places.{DoublePoint}
 use Rattle.lists.specs.Points.{point_at}
 use Rattle.growth.proofs.Held.{held-turn, held-good}
+use Rattle.growth.proofs.Turns.{double-here}
 use Rattle.growth.proofs.calls.held_until.Goals as goal
 
 pub loop-i-init : goal.loop-i-init
@@ -21,8 +22,7 @@ loop-i-preserved c =
     let q = c.args.q in
     let i = c.loop-i.i in
     let v = c.requires.valid in
-    let fit = c.shared_slice_known-in-loop-i-2-1.given in
-    let d : DoublePoint (point_at l i) = record { lat-double = is_true _ (fit i); lng-double = is_true _ (fit (i + 1)) } in
+    let d = double-here l i c.shared_slice_known-in-loop-i-2-1.given in
     let held = sym c.is_held.ensures ∙ c.if-not-is_held.false in
     let was = c.loop-i.invariant.0 in (
       record {
