@@ -19,9 +19,11 @@ use Rattle.entries.specs.Lists.{All, Pairs, Mem, first, later}
 use Rattle.entries.proofs.Entries.{all-at, all_of, no-mem, each-cons, pairs-map}
 use Rattle.arcs.specs.CommonArcs.{every_holds, some_holds, ArcsApart, ArcsUnjoined, LowerArc, PlainArc, CommonArcs}
 use Rattle.arcs.specs.Clipping.{before, sooner, insert, cut, end_at, clip, whole, step, steps, common}
-use Rattle.arcs.proofs.Tests.{both_ways, off, or_right}
+use Rattle.std.proofs.lemmas.Bool.{not-true}
+use Rattle.arcs.proofs.Tests.{both_ways, or_right}
 use Rattle.arcs.proofs.Orders.{IsNum, lo-is, hi-is, at-is, trans-at, total-at, self-at, pass-at, same_at, along-at}
-use Rattle.arcs.proofs.Pieces.{full-full, filled, lo-place, own-lo, every-at, every_of, some_of, some_at, IsPiece, made, piece-valid, piece-live, piece-part, piece-sound, piece-apart, piece-unjoined, Has, all_insert, keep-insert, has-insert, rise-insert, one_more, valids, pairs_of, starts, all_full, Nearest, none-part, nearest, start_of, reached, of-full}
+use Rattle.arcs.proofs.Pieces.{full-full, filled, lo-place, own-lo, every-at, every_of, some_of, some_at, IsPiece, made, piece-valid, piece-live, piece-part, piece-sound, piece-apart, piece-unjoined, Has, all_insert, keep-insert, has-insert, rise-insert}
+use Rattle.arcs.proofs.Pieces.{one_more, valids, pairs_of, starts, all_full, Nearest, none-part, nearest, start_of, reached, of-full}
 
 -- ---- the pieces so far, none of them FULL: what they are, and that each start is among them
 pub record Kept (arcs found : List Interval) : Type 0 where
@@ -153,7 +155,8 @@ module _ (arcs : List Interval) (v : All Valid arcs) (i : Interval) (w : Valid i
   open-piece f n {x} (made {start} {stop} m) h =
       extend {s = i} {stop = stop} f w first f m.stop-in m.stop-part
       (and-of (own-lo w n) (piece-sound arcs v (made m) i.lo false (lo-place w f) h))
-      (λ j o z. along-at (lo-is (all-at Valid v m.start-in)) (lo-is w) (hi-is (all-at Valid v m.stop-in)) (hi-is (all-at Valid v o)) (pass-at (piece-valid arcs v (made m)) w at-PI h) (m.first-end j o z))
+      (λ j o z. along-at (lo-is (all-at Valid v m.start-in)) (lo-is w) (hi-is (all-at Valid v m.stop-in)) (hi-is (all-at Valid v o))
+      (pass-at (piece-valid arcs v (made m)) w at-PI h) (m.first-end j o z))
 
   wide-piece : is_full i ≡ true → {x : Interval} → IsPiece arcs x → IsPiece (i ∷ arcs) x
   unfolding every_holds
@@ -181,7 +184,7 @@ module _ (arcs : List Interval) (v : All Valid arcs) (i : Interval) (w : Valid i
 
   start-part : (j : Interval) → starts (i ∷ arcs) j ≡ true → is_full j ≡ false
   unfolding starts
-  start-part j h = off (is_full j) (and_l _ _ h)
+  start-part j h = not-true (is_full j) (and_l _ _ h)
 
   kept-wide : (found : List Interval) → is_full i ≡ true → Kept arcs found → Kept (i ∷ arcs) found
   kept-wide found f k = record {
@@ -245,7 +248,7 @@ module _ (arcs : List Interval) (v : All Valid arcs) (i : Interval) (w : Valid i
           → IsPiece (i ∷ arcs) (ends i.lo (sooner i.lo (end_at i.lo i.hi found) i.hi))
       piece-new h (inl (q, n)) = absurd (false≢true (sym n ∙ and_r (not (is_empty i)) _ h))
       piece-new h (inr (x, m, a, b)) =
-          subst (λ (e : Float). IsPiece (i ∷ arcs) (ends i.lo (sooner i.lo e i.hi))) (sym b) (open-piece f (off (is_empty i) (and_l _ _ h)) (all-at (IsPiece arcs) k.are m) a)
+          subst (λ (e : Float). IsPiece (i ∷ arcs) (ends i.lo (sooner i.lo e i.hi))) (sym b) (open-piece f (not-true (is_empty i) (and_l _ _ h)) (all-at (IsPiece arcs) k.are m) a)
 
       go : (t : Bool) → not (is_empty i) && some_holds found i.lo false ≡ t → Kept (i ∷ arcs) (cond t (insert (ends i.lo (sooner i.lo (end_at i.lo i.hi found) i.hi)) (cut i found)) (cut i found))
       go true h =
@@ -292,7 +295,8 @@ module _ (arcs : List Interval) (v : All Valid arcs) (i : Interval) (w : Valid i
       subst (λ (t : Bool). State (i ∷ arcs) (cond t (cond (is_empty i) [] (i ∷ [])) (clip (FULL ∷ []) i))) (sym full-whole)
       (some-part (ap (λ (t : Bool). t && all_full arcs) f) (kept-first arcs v i w f z))
 
-  next-part : (found : List Interval) (t : Bool) → is_full i ≡ t → all_full arcs ≡ false → Kept arcs found → State (i ∷ arcs) (cond t found (cond (whole found) (cond (is_empty i) [] (i ∷ [])) (clip found i)))
+  next-part : (found : List Interval) (t : Bool) → is_full i ≡ t → all_full arcs ≡ false → Kept arcs found
+      → State (i ∷ arcs) (cond t found (cond (whole found) (cond (is_empty i) [] (i ∷ [])) (clip found i)))
   unfolding all_full
   next-part found true f z k = some-part (ap (λ (t : Bool). t && all_full arcs) f ∙ z) (kept-wide arcs v i w found f k)
   next-part found false f z k =

@@ -179,7 +179,8 @@ module _ (a : Interval) (b : Float) (o : Spared a b true) where
         ∙ go (not (is_empty a) && some_holds t a.lo false)
       where
         go : (u : Bool)
-            → cond u (insert (ends a.lo (sooner a.lo (end_at a.lo a.hi t) a.hi)) (l ++ cut a t)) (l ++ cut a t) ≡ l ++ cond u (insert (ends a.lo (sooner a.lo (end_at a.lo a.hi t) a.hi)) (cut a t)) (cut a t)
+            → cond u (insert (ends a.lo (sooner a.lo (end_at a.lo a.hi t) a.hi)) (l ++ cut a t)) (l ++ cut a t)
+            ≡ l ++ cond u (insert (ends a.lo (sooner a.lo (end_at a.lo a.hi t) a.hi)) (cut a t)) (cut a t)
         go true = insert-front (sooner a.lo (end_at a.lo a.hi t) a.hi) (cut a t) l q
         go false = refl
 

@@ -65,4 +65,8 @@ module _ (d : List Interval) (n i : ℕ) (z : Interval) (h : i < n) (k : n ≤ l
 pub turn_end : (d : List Interval) (n : ℕ) (m : Bool) (c : Interval) → n < length d → take (n + 1) (set d n c) ≡ take n d ++ walk m c (drop n (take n d))
 turn_end d n m c h =
     rw (add-one n) (take-suc-set d n c h)
-    ∙ ap (λ (l : List Interval). take n d ++ l) (sym (ap (λ (l : List Interval). walk m c l) (ap (λ (k : ℕ). drop k (take n d)) (sym (length-take-le n d (omega arith))) ∙ drop-length (take n d)) ∙ walk_none m c))
+    ∙ ap (λ (l : List Interval). take n d ++ l)
+    (sym (ap (λ (l : List Interval). walk m c l) (ap (λ (k : ℕ). drop k (take n d)) (sym (length-take-le n d (omega arith))) ∙ drop-length (take n d)) ∙ walk_none m c))
+
+-- the turns of the loop
+pub ruleset insertion = (turn-move, turn-past, turn-same, turn_end)

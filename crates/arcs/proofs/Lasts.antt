@@ -1,12 +1,13 @@
 -- One piece after the front, clipped by an arc over the seam with no loop: where the piece goes on past the arc's gap it is parted or moved, and where it
--- ends before the gap does it is closed. Then the turns of the loops of src/sweep.rt, on two arrays. Assumes nothing.
+-- ends before the gap does it is closed. Then the turns of the loops of src/sweep.rt. Assumes nothing.
 use mathlib.Core.Path.{◌≡◌, refl, sym, ap, ◌∙◌}
 use mathlib.Core.Bool.{Bool, true, false, not, ◌&&◌, ◌||◌, cond, false≢true}
-use mathlib.Core.List.{List, [], ◌∷◌, ◌++◌, append_assoc, append-nil}
-use Prim.Native.Nat.{ℕ, ◌+◌, ◌≤◌, ◌<◌}
+use mathlib.Core.List.{List, [], ◌∷◌, ◌++◌, append_assoc}
+use Prim.Native.Nat.{ℕ, ◌+◌, ◌<◌}
 use native.Mathlib.Numerals.{add-one}
 use native.Mathlib.Omega.{arith}
 use lib.ListN.{length, take, drop, get_or, set}
+use Rattle.std.proofs.Common.{length-drop}
 use lib.Seq.{take-suc-set, take-set-le}
 use lib.Ieee.{Float, nan, binary64, fits, lt, le, eq}
 use Rattle.order.specs.Key.{Num}
@@ -21,9 +22,7 @@ use Rattle.s1.proofs.Held.{num-PI, num-NEG}
 use Rattle.entries.specs.Lists.{All}
 use Rattle.arcs.specs.CommonArcs.{some_holds}
 use Rattle.arcs.specs.Clipping.{before, sooner, insert, cut, end_at, clip, whole, step, steps}
-use Rattle.sort.specs.Arrays.{zip}
-use Rattle.arcs.specs.Inside.{settles, Settled, Spared, passes, Passed, parted, closed, IsSwept, IsClosed, Skipped, Left, IsEnded}
-use Rattle.sort.proofs.Arrays.{zip_length, zip-set}
+use Rattle.arcs.specs.Inside.{settles, Settled, Spared, passes, Passed, parted, closed, IsSwept, Skipped, IsEnded, Firsts}
 use Rattle.arcs.proofs.Turns.{step-first, clip-open, clip-cut, clipped-turn}
 use Rattle.arcs.proofs.Fronts.{lt_no, lt-ne, lt-le-lt, le-lt, holds-is, before-is, inverted, lo-under, num-hi, num-lo, arc-some, all-still, step-front, step-settled, all_append}
 
@@ -80,7 +79,8 @@ module _ (a x : Interval) (i : lt a.hi a.lo ≡ true) (g : is_empty a ≡ false)
       ∙ ap (λ (v : Bool). cond (t && true) (ends x.lo (cond v x.hi a.hi) ∷ []) []) r
 
 -- ---- a piece that goes on past the gap
-module _ (a x : Interval) (nl : Num x.lo ≡ true) (nh : Num x.hi ≡ true) (ns : Num a.lo ≡ true) (nt : Num a.hi ≡ true) (i : lt a.hi a.lo ≡ true) (g : is_empty a ≡ false) (u : le a.lo PI ≡ true) (q : Past a x) where
+module _ (a x : Interval) (nl : Num x.lo ≡ true) (nh : Num x.hi ≡ true) (ns : Num a.lo ≡ true) (nt : Num a.hi ≡ true) (i : lt a.hi a.lo ≡ true) (g : is_empty a ≡ false)
+    (u : le a.lo PI ≡ true) (q : Past a x) where
   some : lt x.lo a.lo ≡ true → is_empty x ≡ false
   unfolding is_empty
   some p = ap (λ (w : Bool). w && eq x.hi NEG-PI) (lt-ne x.lo PI nl num-PI (lt-le-lt x.lo a.lo PI nl ns num-PI p u))
@@ -89,7 +89,8 @@ module _ (a x : Interval) (nl : Num x.lo ≡ true) (nh : Num x.hi ≡ true) (ns 
   unfolding some_holds end_at sooner
   new_is p b c =
       let h = q.held b (some b) in
-      sym (clip-open (x ∷ []) a false true (sym g) (sym (or-of-l (holds x a.lo false) false h)) x.hi x.hi p (sym (ap (λ (v : Bool). cond v x.hi a.hi) h)) c (sym (ap (λ (v : Bool). cond v x.hi a.hi) q.new-end)) refl)
+      sym (clip-open (x ∷ []) a false true (sym g) (sym (or-of-l (holds x a.lo false) false h)) x.hi x.hi p
+      (sym (ap (λ (v : Bool). cond v x.hi a.hi) h)) c (sym (ap (λ (v : Bool). cond v x.hi a.hi) q.new-end)) refl)
 
   split : le x.lo a.hi ≡ true → clip (x ∷ []) a ≡ ends x.lo a.hi ∷ ends a.lo x.hi ∷ []
   unfolding insert
@@ -117,7 +118,8 @@ module _ (a x : Interval) (nl : Num x.lo ≡ true) (nh : Num x.hi ≡ true) (ns 
       go : (t : Bool) → holds x a.lo false ≡ t → clip (x ∷ []) a ≡ x ∷ []
       go true e =
           unfold some_holds end_at insert in
-          (sym (clip-open (x ∷ []) a false true (sym g) (sym (or-of-l (holds x a.lo false) false e)) x.hi (sooner a.lo x.hi a.hi) (x ∷ []) (sym (ap (λ (v : Bool). cond v x.hi a.hi) e)) (sym c) refl refl)
+          (sym (clip-open (x ∷ []) a false true (sym g) (sym (or-of-l (holds x a.lo false) false e)) x.hi (sooner a.lo x.hi a.hi) (x ∷ [])
+          (sym (ap (λ (v : Bool). cond v x.hi a.hi) e)) (sym c) refl refl)
           ∙ ap (λ (v : Bool). cond v (ends a.lo (sooner a.lo x.hi a.hi) ∷ x ∷ []) (cond (lt x.lo a.lo) (x ∷ ends a.lo (sooner a.lo x.hi a.hi) ∷ []) (x ∷ []))) (le-no x.lo a.lo nl ns (q.same e))
           ∙ ap (λ (v : Bool). cond v (x ∷ ends a.lo (sooner a.lo x.hi a.hi) ∷ []) (x ∷ [])) n)
       go false e = unfold some_holds in (clip-cut (x ∷ []) a false false (sym g) (sym (ap (λ (v : Bool). v || false) e)) refl ∙ c)
@@ -227,109 +229,84 @@ pub full-first : (x a : Interval) → fits binary64 a.lo ≡ true → is_full x 
 unfolding whole
 full-first x a d w r e = step-first (x ∷ []) a (not_full a d r) false w e
 
--- ---- one piece more, in two arrays
-pub put_last : (lo hi : List Float) (f : ℕ) (l h : Float) → f < length lo → length lo ≡ length hi → take (f + 1) (zip (set lo f l) (set hi f h)) ≡ take f (zip lo hi) ++ (ends l h ∷ [])
-put_last lo hi f l h b q = rw (zip-set lo hi f l h, add-one f) (take-suc-set (zip lo hi) f (ends l h) (omega (arith, zip_length lo hi q)))
+-- ---- one piece more
+pub put_last : (d : List Interval) (f : ℕ) (x : Interval) → f < length d → take (f + 1) (set d f x) ≡ take f d ++ (x ∷ [])
+put_last d f x b = rw (add-one f) (take-suc-set d f x b)
 
 -- ---- a turn of the sweep
-module _ (west east lo hi : List Float) (first n : ℕ) (start : Interval) (k f : ℕ) (b : Float) (x : Interval) (h : k < n) (bw : n ≤ length west) (qw : length west ≡ length east) (room : n < length lo) (q : length lo ≡ length hi) (w : IsSwept (take n (zip west east)) first n start (record { k = k; f = f; b = b; x = x }) (zip lo hi)) where
+module _ (arcs d : List Interval) (start : Interval) (k f : ℕ) (b : Float) (x z : Interval) (h : k < length arcs) (room : length arcs < length d)
+    (w : IsSwept arcs start (record { k = k; f = f; b = b; x = x }) d) where
   abbrev a : Interval
-  a = ends (get_or west k nan) (get_or east k nan)
+  a = get_or arcs k z
 
   abbrev front : List Interval
-  front = take f (zip lo hi)
+  front = take f d
 
-  module _ (o : Spared (ends (get_or west k nan) (get_or east k nan)) b true) where
+  module _ (o : Spared (get_or arcs k z) b true) where
     -- the piece clipped, with the front before it
-    last_turn : (t : List Interval) → fits binary64 x.lo ≡ true → clip (x ∷ []) a ≡ t → steps (front ++ t) (drop (k + 1) (take n (zip west east))) ≡ steps (start ∷ []) (drop first (take n (zip west east)))
+    last_turn : (t : List Interval) → fits binary64 x.lo ≡ true → clip (x ∷ []) a ≡ t → steps (front ++ t) (drop (k + 1) arcs) ≡ steps (start ∷ []) arcs
     unfolding whole
     last_turn t d e =
-        clipped-turn west east n k h bw qw (front ++ (x ∷ [])) (front ++ t) (ap (λ (r : List Interval). front ++ r) (sym e) ∙ sym (step-front a b o front (x ∷ []) w.settled (not_full x d w.part))) ∙ w.is
+        clipped-turn arcs k z h (front ++ (x ∷ [])) (front ++ t) (ap (λ (r : List Interval). front ++ r) (sym e) ∙ sym (step-front a b o front (x ∷ []) w.settled (not_full x d w.part))) ∙ w.is
 
     -- a piece that ends before the gap is closed, and the arcs that leave what is left as it is are skipped
-    pub closed-turn : fits binary64 x.lo ≡ true → fits binary64 x.hi ≡ true → le x.lo x.hi ≡ true → lt x.hi (get_or west k nan) ≡ true → (m : ℕ) (l : List Interval)
-        → IsEnded (take n (zip west east)) k n (ends (get_or west k nan) (get_or east k nan)) x (take f (zip lo hi)) m l → Left n m l (steps (start ∷ []) (drop first (take n (zip west east))))
+    pub closed-turn : fits binary64 x.lo ≡ true → fits binary64 x.hi ≡ true → le x.lo x.hi ≡ true → lt x.hi (get_or arcs k z).lo ≡ true → (m : ℕ) (l : List Interval)
+        → IsEnded (drop (k + 1) arcs) (get_or arcs k z) x f d m l → Firsts m l (steps (start ∷ []) arcs) (length arcs + 1)
     closed-turn xl xh r c m l e = record {
       is = e.is (all_append (Settled a.hi) front (closed a x) (all-still a b o front w.settled) (closed-settled a x b o xl xh r c))
           ∙ last_turn (closed a x) xl (closed_is a x b o xl xh r c);
-      few = e.few;
+      few = omega (arith, e.few, w.few, length-drop (k + 1) arcs);
     }
 
-    module _ (p : Passed (ends (get_or west k nan) (get_or east k nan)) x true) (r : Float) (m : r ≡ max x.lo (get_or west k nan)) where
+    module _ (p : Passed (get_or arcs k z) x true) (r : Float) (m : r ≡ max x.lo (get_or arcs k z).lo) where
       new-part : lt NEG-PI r ≡ true
-      new-part = rw m (above x.lo (get_or west k nan) p.lo-double (num-lo a b o) w.part)
+      new-part = rw m (above x.lo a.lo p.lo-double (num-lo a b o) w.part)
 
-      parted-turn : le x.lo (get_or east k nan) ≡ true
-          → IsSwept (take n (zip west east)) first n start (record { k = k + 1; f = f + 1; b = get_or east k nan; x = ends r x.hi }) (zip (set lo f x.lo) (set hi f (get_or east k nan)))
+      parted-turn : le x.lo (get_or arcs k z).hi ≡ true
+          → IsSwept arcs start (record { k = k + 1; f = f + 1; b = (get_or arcs k z).hi; x = ends r x.hi }) (set d f (ends x.lo (get_or arcs k z).hi))
       parted-turn e = record {
-        is = ap (λ (l : List Interval). steps (l ++ (ends r x.hi ∷ [])) (drop (k + 1) (take n (zip west east)))) put
-            ∙ ap (λ (l : List Interval). steps l (drop (k + 1) (take n (zip west east)))) (append_assoc front (ends x.lo a.hi ∷ []) (ends r x.hi ∷ []))
+        is = ap (λ (l : List Interval). steps (l ++ (ends r x.hi ∷ [])) (drop (k + 1) arcs)) put
+            ∙ ap (λ (l : List Interval). steps l (drop (k + 1) arcs)) (append_assoc front (ends x.lo a.hi ∷ []) (ends r x.hi ∷ []))
             ∙ last_turn (ends x.lo a.hi ∷ ends r x.hi ∷ []) p.lo-double (parted-is a x b o p ∙ parted-as a x true e ∙ ap (λ (y : Float). ends x.lo a.hi ∷ ends y x.hi ∷ []) (sym m));
         settled = rw put (all_append (Settled a.hi) front (ends x.lo a.hi ∷ []) (all-still a b o front w.settled) (new-one, tt));
         part = new-part;
-        from = omega (arith, w.from);
         up_to = omega arith;
         few = omega (arith, w.few);
       }
         where
-          put : take (f + 1) (zip (set lo f x.lo) (set hi f a.hi)) ≡ front ++ (ends x.lo a.hi ∷ [])
-          put = put_last lo hi f x.lo a.hi (omega (arith, w.few)) q
+          put : take (f + 1) (set d f (ends x.lo a.hi)) ≡ front ++ (ends x.lo a.hi ∷ [])
+          put = put_last d f (ends x.lo a.hi) (omega (arith, w.few))
 
           new-one : Settled a.hi (ends x.lo a.hi)
           new-one = unfold settles in record { lo-double = p.lo-double; hi-double = o.hi-double; is-settled = and-of e (le_refl a.hi (num-hi a b o)) }
 
-      moved-turn : le x.lo (get_or east k nan) ≡ false
-          → IsSwept (take n (zip west east)) first n start (record { k = k + 1; f = f; b = get_or east k nan; x = ends r x.hi }) (zip (set lo f x.lo) (set hi f (get_or east k nan)))
+      moved-turn : le x.lo (get_or arcs k z).hi ≡ false
+          → IsSwept arcs start (record { k = k + 1; f = f; b = (get_or arcs k z).hi; x = ends r x.hi }) (set d f (ends x.lo (get_or arcs k z).hi))
       moved-turn e = record {
-        is = ap (λ (l : List Interval). steps (l ++ (ends r x.hi ∷ [])) (drop (k + 1) (take n (zip west east)))) as_before
+        is = ap (λ (l : List Interval). steps (l ++ (ends r x.hi ∷ [])) (drop (k + 1) arcs)) as_before
             ∙ last_turn (ends r x.hi ∷ []) p.lo-double (parted-is a x b o p ∙ parted-as a x false e ∙ ap (λ (y : Float). ends y x.hi ∷ []) (sym m));
         settled = rw as_before (all-still a b o front w.settled);
         part = new-part;
-        from = omega (arith, w.from);
         up_to = omega arith;
         few = omega (arith, w.few);
       }
         where
-          as_before : take f (zip (set lo f x.lo) (set hi f a.hi)) ≡ front
-          as_before = rw (zip-set lo hi f x.lo a.hi) (take-set-le f (zip lo hi) f (ends x.lo a.hi) (omega arith))
+          as_before : take f (set d f (ends x.lo a.hi)) ≡ front
+          as_before = take-set-le f d f (ends x.lo a.hi) (omega arith)
 
       -- either way: the piece is put after the front, and g counts it where the gap parts it
-      pub swept-turn : (g : ℕ) → g ≡ cond (le x.lo (get_or east k nan)) (f + 1) f
-          → IsSwept (take n (zip west east)) first n start (record { k = k + 1; f = g; b = get_or east k nan; x = ends r x.hi }) (zip (set lo f x.lo) (set hi f (get_or east k nan)))
-      swept-turn g e = rw e (by-test (le x.lo (get_or east k nan)) refl)
+      pub swept-turn : (g : ℕ) → g ≡ cond (le x.lo (get_or arcs k z).hi) (f + 1) f
+          → IsSwept arcs start (record { k = k + 1; f = g; b = (get_or arcs k z).hi; x = ends r x.hi }) (set d f (ends x.lo (get_or arcs k z).hi))
+      swept-turn g e = rw e (by-test (le x.lo (get_or arcs k z).hi) refl)
         where
-          by-test : (t : Bool) → le x.lo (get_or east k nan) ≡ t
-              → IsSwept (take n (zip west east)) first n start (record { k = k + 1; f = cond t (f + 1) f; b = get_or east k nan; x = ends r x.hi }) (zip (set lo f x.lo) (set hi f (get_or east k nan)))
+          by-test : (t : Bool) → le x.lo (get_or arcs k z).hi ≡ t
+              → IsSwept arcs start (record { k = k + 1; f = cond t (f + 1) f; b = (get_or arcs k z).hi; x = ends r x.hi }) (set d f (ends x.lo (get_or arcs k z).hi))
           by-test true h = parted-turn h
           by-test false h = moved-turn h
 
 -- ---- a turn over arcs that leave settled pieces as they are
-pub skipped-turn : (west east : List Float) (first n k : ℕ) (b : Float) → k < n → n ≤ length west → length west ≡ length east → Skipped (take n (zip west east)) first n b k
-    → Spared (ends (get_or west k nan) (get_or east k nan)) b true → Skipped (take n (zip west east)) first n b (k + 1)
-skipped-turn west east first n k b h bw qw w o = record {
-  is = λ l q. clipped-turn west east n k h bw qw l l (sym (step-settled (ends (get_or west k nan) (get_or east k nan)) b o l q)) ∙ w.is l q;
-  from = omega (arith, w.from);
+pub skipped_turn : (arcs : List Interval) (k : ℕ) (b : Float) → k < length arcs → Skipped arcs b k → Spared (get_or arcs k (ends nan nan)) b true → Skipped arcs b (k + 1)
+skipped_turn arcs k b h w o = record {
+  is = λ l q. clipped-turn arcs k (ends nan nan) h l l (sym (step-settled (get_or arcs k (ends nan nan)) b o l q)) ∙ w.is l q;
   up_to = omega arith;
 }
-
--- ---- a piece closed, in two arrays
-module _ (a x : Interval) (f : ℕ) (lo hi : List Float) where
-  pub close-some : (r : Float) → f < length lo → length lo ≡ length hi → r ≡ min x.hi a.hi → le x.lo a.hi ≡ true
-      → IsClosed a x f (zip lo hi) (f + 1) (zip (set lo f x.lo) (set hi f r))
-  unfolding closed
-  close-some r b q m e = record {
-    is = put_last lo hi f x.lo r b q ∙ ap (λ (y : Float). take f (zip lo hi) ++ (ends x.lo y ∷ [])) m
-        ∙ ap (λ (t : Bool). take f (zip lo hi) ++ cond t (ends x.lo (min x.hi a.hi) ∷ []) []) (sym e);
-    few = omega arith;
-  }
-
-  pub close-none : le x.lo a.hi ≡ false → IsClosed a x f (zip lo hi) f (zip lo hi)
-  unfolding closed
-  close-none e = record {
-    is = sym (ap (λ (t : Bool). take f (zip lo hi) ++ cond t (ends x.lo (min x.hi a.hi) ∷ []) []) e ∙ append-nil (take f (zip lo hi)));
-    few = omega arith;
-  }
-
--- ---- the pieces left, written another way
-pub left_is : {n r : ℕ} {l p q : List Interval} → Left n r l p → p ≡ q → Left n r l q
-left_is w e = record { is = w.is ∙ e; few = w.few }

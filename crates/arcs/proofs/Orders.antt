@@ -72,7 +72,8 @@ reach-all : trial (λ N P a b c d. eqb c d && not (full_n N P a b)) (λ N P a b 
 unfolding trial trial₀ intervals places all both imp
 reach-all = refl
 
-intersection-all : trial (λ N P a b c d. not (full_n N P a b || full_n N P c d) && not (holds_n N P a b c false || holds_n N P c d a false)) (λ N P a b c d p g. not (holds_n N P a b p g && holds_n N P c d p g)) ≡ true
+intersection-all : trial (λ N P a b c d. not (full_n N P a b || full_n N P c d) && not (holds_n N P a b c false || holds_n N P c d a false))
+    (λ N P a b c d p g. not (holds_n N P a b p g && holds_n N P c d p g)) ≡ true
 unfolding trial trial₀ intervals places all both imp
 intersection-all = refl
 
@@ -82,11 +83,13 @@ last-all : trial (λ N P a b c d. not (full_n N P c d) && not (above_g eqb N P d
 unfolding trial trial₀ intervals places all both imp
 last-all = refl
 
-make-all : trial₀ (λ N P a b c d. not (full_n N P a b) && not (full_n N P c d) && holds_n N P a b a false && holds_n N P c d a false) (λ N P a b c d. valid_n N P a d && (not (empty_n N P a d) && not (full_n N P a d))) ≡ true
+make-all : trial₀ (λ N P a b c d. not (full_n N P a b) && not (full_n N P c d) && holds_n N P a b a false && holds_n N P c d a false)
+    (λ N P a b c d. valid_n N P a d && (not (empty_n N P a d) && not (full_n N P a d))) ≡ true
 unfolding trial₀ intervals all imp
 make-all = refl
 
-clear-all : trial₀ (λ N P a b c d. not (full_n N P a b) && not (full_n N P c d) && not (eqb a c) && holds_n N P c d a false && before_g ltb leb a b d) (λ N P a b c d. not (holds_n N P a b c false)) ≡ true
+clear-all : trial₀ (λ N P a b c d. not (full_n N P a b) && not (full_n N P c d) && not (eqb a c) && holds_n N P c d a false && before_g ltb leb a b d)
+    (λ N P a b c d. not (holds_n N P a b c false)) ≡ true
 unfolding trial₀ intervals all imp
 clear-all = refl
 
@@ -181,7 +184,8 @@ module _ {i o : Interval} {p : Float} {g : Bool} (v : Valid i) (w : Valid o) (q 
   reach-at h = simp spots (at₁ _ _ reach-all (simp spots at h))
 
   -- from the western end of i, which both hold, to the eastern end of o is a valid arc, neither EMPTY nor FULL
-  pub make-at : not (is_full i) && not (is_full o) && holds i i.lo false && holds o i.lo false ≡ true → is_valid (ends i.lo o.hi) && (not (is_empty (ends i.lo o.hi)) && not (is_full (ends i.lo o.hi))) ≡ true
+  pub make-at : not (is_full i) && not (is_full o) && holds i i.lo false && holds o i.lo false ≡ true
+      → is_valid (ends i.lo o.hi) && (not (is_empty (ends i.lo o.hi)) && not (is_full (ends i.lo o.hi))) ≡ true
   unfolding is_full is_empty is_valid
   make-at h = simp spots (at₀ _ _ make-all (simp spots at h))
 

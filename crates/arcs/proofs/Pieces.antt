@@ -22,8 +22,10 @@ use Rattle.entries.specs.Lists.{All, Pairs, Mem, first, later}
 use Rattle.entries.proofs.Entries.{all-at, all_of, each-cons}
 use Rattle.arcs.specs.CommonArcs.{every_holds, some_holds, ArcsApart, CommonArc, ArcsUnjoined, LowerArc, PlainArc, CommonArcs}
 use Rattle.arcs.specs.Clipping.{before, insert}
-use Rattle.arcs.proofs.Tests.{or_right, off, decide, refute, prove, neither}
-use Rattle.arcs.proofs.Orders.{IsNum, lo-is, at-is, on_way, above, above-is, above-fits, sound-at, make-at, start-at, reach-at, clear_at, intersection-at, last-at, gap_at, lo-place-at, own_at, point-valid, nearer-at, self-at, moved_at, rise-at, apart-at, level-at}
+use Rattle.std.proofs.lemmas.Bool.{not-true, true_from_ne_false}
+use Rattle.arcs.proofs.Tests.{or_right, decide, refute, neither}
+use Rattle.arcs.proofs.Orders.{IsNum, lo-is, at-is, on_way, above, above-is, above-fits, sound-at, make-at, start-at, reach-at}
+use Rattle.arcs.proofs.Orders.{clear_at, intersection-at, last-at, gap_at, lo-place-at, own_at, point-valid, nearer-at, self-at, moved_at, rise-at, apart-at, level-at}
 
 -- ---- FULL, and ends
 pub full-full : is_full FULL ≡ true
@@ -113,10 +115,10 @@ module _ (arcs : List Interval) (v : All Valid arcs) where
       record { lo-double = (all-at Valid v m.start-in).lo-double; hi-double = (all-at Valid v m.stop-in).hi-double; is-valid = and_l _ _ (made_ok m) }
 
   pub piece-live : {x : Interval} → IsPiece arcs x → is_empty x ≡ false
-  piece-live (made {start} {stop} m) = off _ (and_l _ _ (and_r (is_valid (ends start.lo stop.hi)) _ (made_ok m)))
+  piece-live (made {start} {stop} m) = not-true _ (and_l _ _ (and_r (is_valid (ends start.lo stop.hi)) _ (made_ok m)))
 
   pub piece-part : {x : Interval} → IsPiece arcs x → is_full x ≡ false
-  piece-part (made {start} {stop} m) = off _ (and_r (not (is_empty (ends start.lo stop.hi))) _ (and_r (is_valid (ends start.lo stop.hi)) _ (made_ok m)))
+  piece-part (made {start} {stop} m) = not-true _ (and_r (not (is_empty (ends start.lo stop.hi))) _ (and_r (is_valid (ends start.lo stop.hi)) _ (made_ok m)))
 
   -- a place of a piece lies in every arc
   pub piece-sound : {x : Interval} → IsPiece arcs x → (p : Float) (g : Bool) → Place p g → holds x p g ≡ true → every_holds arcs p g ≡ true
@@ -128,7 +130,8 @@ module _ (arcs : List Interval) (v : All Valid arcs) where
 
   -- going east, a piece ends before another starts
   piece-clear : {x y : Interval} → IsPiece arcs x → IsPiece arcs y → not (eq x.lo y.lo) ≡ true → not (holds x y.lo false) ≡ true
-  piece-clear {x} a (made {start} {stop} n) d = clear_at (piece-valid a) (all-at Valid v n.start-in) at-PI (and-of (and-of (and-of (and-of (ap not (piece-part a)) (ap not n.start-part)) d) (at a)) (end a))
+  piece-clear {x} a (made {start} {stop} n) d = clear_at (piece-valid a) (all-at Valid v n.start-in) at-PI
+      (and-of (and-of (and-of (and-of (ap not (piece-part a)) (ap not n.start-part)) d) (at a)) (end a))
     where
       at : {x : Interval} → IsPiece arcs x → holds start x.lo false ≡ true
       at (made m) = every-at _ false m.inside n.start-in
@@ -140,7 +143,8 @@ module _ (arcs : List Interval) (v : All Valid arcs) where
   piece-apart {x} {y} a b h p g q k l =
       clash _ (and-of k l)
       (intersection-at (piece-valid a) (piece-valid b) q
-      (and-of (neither (is_full x) (is_full y) (piece-part a) (piece-part b)) (neither (holds x y.lo false) (holds y x.lo false) (off _ (piece-clear a b (and_l _ _ d))) (off _ (piece-clear b a (and_r (not (eq x.lo y.lo)) _ d))))))
+      (and-of (neither (is_full x) (is_full y) (piece-part a) (piece-part b))
+      (neither (holds x y.lo false) (holds y x.lo false) (not-true _ (piece-clear a b (and_l _ _ d))) (not-true _ (piece-clear b a (and_r (not (eq x.lo y.lo)) _ d))))))
     where
       d : not (eq x.lo y.lo) && not (eq y.lo x.lo) ≡ true
       d = apart-at (lo-is (piece-valid a)) (lo-is (piece-valid b)) (lo-is (piece-valid b)) (lo-is (piece-valid b)) h
@@ -149,14 +153,16 @@ module _ (arcs : List Interval) (v : All Valid arcs) where
   beyond : {x : Interval} → IsPiece arcs x → Place (above x.hi) true × (every_holds arcs (above x.hi) true ≡ true → ⊥)
   beyond (made {start} {stop} m) =
       let w = all-at Valid v m.stop-in in
-      let t = gap_at w (and-of (ap not m.stop-part) (ap not (filled w (lo-place (all-at Valid v m.start-in) m.start-part) (every-at _ false m.inside m.stop-in)))) in
-      (record { is-double = above-fits stop.hi w.hi-double; is-place = above-is (λ z. place z true) stop.hi ∙ and_r (not (cond (eq stop.hi PI) (holds stop NEG-PI true) (holds stop stop.hi true))) _ t }, λ h. clash _ (sym (above-is (λ z. holds stop z true) stop.hi) ∙ every-at _ true h m.stop-in) (and_l _ _ t))
+      let t = gap_at w (and-of (ap not m.stop-part) (ap not (filled w (lo-place (all-at Valid v m.start-in) m.start-part) (every-at _ false m.inside m.stop-in)))) in (
+        record { is-double = above-fits stop.hi w.hi-double; is-place = above-is (λ z. place z true) stop.hi ∙ and_r (not (cond (eq stop.hi PI) (holds stop NEG-PI true) (holds stop stop.hi true))) _ t },
+        λ h. clash _ (sym (above-is (λ z. holds stop z true) stop.hi) ∙ every-at _ true h m.stop-in) (and_l _ _ t),
+      )
 
   -- an interval of common places that holds a place of a piece ends in that piece
   ends-in : {x : Interval} → IsPiece arcs x → (j : Interval) → Valid j → CommonArc arcs j → Meets j x
       → holds x j.hi false && place j.hi false ≡ true
   ends-in {x} a j w c (p, g, q, h, k) =
-      prove _ (λ e. clash _ (and-of h k) (last-at w (piece-valid a) q
+      true_from_ne_false _ (λ e. clash _ (and-of h k) (last-at w (piece-valid a) q
       (and-of (and-of (ap not (piece-part a)) (refute _ (λ t. (beyond a).1 (c (above x.hi) true (beyond a).0 (above-is (λ z. holds j z true) x.hi ∙ t))))) (ap not e))))
 
   pub piece-unjoined : {x y : Interval} → IsPiece arcs x → IsPiece arcs y → lt x.lo y.lo ≡ true → ArcsUnjoined arcs x y
@@ -287,7 +293,7 @@ module _ (arcs : List Interval) (v : All Valid arcs) where
 
       go : (i : Interval) → Mem i arcs → (is_full i ≡ true) ⊎ (is_full i ≡ false) → holds i k.lo false ≡ true
       go i n (inl e) = full-fwd (all-at Valid v n) (all-at Valid v n) at e
-      go i n (inr e) = prove _ (λ z. clash _ (and-of (every-at p g h n) (a i n e)) (start-at (all-at Valid v n) (point-valid at) q (and-of (eq_refl k.lo (lo-num (all-at Valid v m))) (ap not z))))
+      go i n (inr e) = true_from_ne_false _ (λ z. clash _ (and-of (every-at p g h n) (a i n e)) (start-at (all-at Valid v n) (point-valid at) q (and-of (eq_refl k.lo (lo-num (all-at Valid v m))) (ap not z))))
 
   pub reached : (p : Float) (g : Bool) → Place p g → every_holds arcs p g ≡ true → (k : Interval) → Nearest p arcs k → {x : Interval} → IsPiece arcs x → eq k.lo x.lo ≡ true → holds x p g ≡ true
   reached p g q h k (m, f, a) (made {start} {stop} b) e =

@@ -24,7 +24,8 @@ use Rattle.arcs.specs.CommonArcs.{every_holds, some_holds, PlainArc, AreRead, Co
 use Rattle.arcs.specs.Clipping.{step, steps, common}
 use Rattle.arcs.specs.Kinds.{rises, narrowed, risen, crossing, met}
 use Rattle.sort.specs.Permutations.{Permuted}
-use Rattle.arcs.proofs.Tests.{both_ways, off, or_right}
+use Rattle.std.proofs.lemmas.Bool.{not-true}
+use Rattle.arcs.proofs.Tests.{both_ways, or_right}
 use Rattle.arcs.proofs.Orders.{rising-at}
 use Rattle.arcs.proofs.Pieces.{full-full, full-valid, full-plain}
 use Rattle.arcs.proofs.Clipping.{full-whole, every-same, same-common, common-is}
@@ -152,7 +153,7 @@ module _ (x a : Interval) (c : IsRisen x) (v : Valid a) (p : PlainArc a) (r : ri
       of-full : (t : Bool) → lt NEG-PI a.lo ≡ t → (narrowed FULL a ≡ FULL) ⊎ (lt NEG-PI (narrowed FULL a).lo ≡ true)
       of-full true h = inr (ap (λ (t : Bool). lt NEG-PI (cond t a.lo NEG-PI)) h ∙ h)
       of-full false h =
-          let u = off (lt a.hi PI) (or_right (lt NEG-PI a.lo) _ (and_r (lt NEG-PI a.hi) _ above) h) in
+          let u = not-true (lt a.hi PI) (or_right (lt NEG-PI a.lo) _ (and_r (lt NEG-PI a.hi) _ above) h) in
           inl (λ k. record { lo = cond (h k) a.lo NEG-PI; hi = cond (u k) a.hi PI })
 
       later : (t : Bool) → lt x.lo a.lo ≡ t → lt NEG-PI x.lo ≡ true → lt NEG-PI (cond t a.lo x.lo) ≡ true
@@ -201,7 +202,8 @@ module _ (x : Interval) (c : IsRisen x) where
       go (inr h) = record {
         lo-double = c.lo-end.is-double;
         hi-double = c.hi-end.is-double;
-        is-valid = and-of (and-of (and-of (and-of (and-of c.lo-end.from c.lo-end.up_to) c.hi-end.from) c.hi-end.up_to) (off-start (eq x.lo NEG-PI) (not (eq x.hi PI)) (lo-not h))) (off-start (eq x.hi NEG-PI) (not (eq x.lo PI)) hi-not);
+        is-valid = and-of (and-of (and-of (and-of (and-of c.lo-end.from c.lo-end.up_to) c.hi-end.from) c.hi-end.up_to)
+            (off-start (eq x.lo NEG-PI) (not (eq x.hi PI)) (lo-not h))) (off-start (eq x.hi NEG-PI) (not (eq x.lo PI)) hi-not);
       }
 
   risen-plain : PlainArc x
@@ -284,7 +286,7 @@ module _ (x : Interval) (v : Valid x) (p : PlainArc x) (r : rises x ≡ true) wh
       go : (t : Bool) → lt NEG-PI x.lo ≡ t → (x ≡ FULL) ⊎ (lt NEG-PI x.lo ≡ true)
       go true h = inr h
       go false h =
-          let u = off (lt x.hi PI) (or_right (lt NEG-PI x.lo) _ (and_r (lt NEG-PI x.hi) _ above-x) h) in
+          let u = not-true (lt x.hi PI) (or_right (lt NEG-PI x.lo) _ (and_r (lt NEG-PI x.hi) _ above-x) h) in
           let a = antisym x.lo NEG-PI (end-num e.0) num-NEG (not-lt NEG-PI x.lo num-NEG (end-num e.0) h) e.0.from in
           let b = antisym x.hi PI (end-num e.1) num-PI e.1.up_to (not-lt x.hi PI (end-num e.1) num-PI u) in
           inl (full-one v p (and-of a b))

@@ -1,61 +1,48 @@
 -- What the functions of this crate promise each other. Nothing here needs to be believed: it stands among the definitions only because a contract can cite
 -- nothing else, and what it comes to is what `meet` promises (specs/Arrays.antt), which is proved from it. Definitions only; the laws are in proofs/.
-use Rattle.std.specs.Prelude.{◌≡◌, Bool, true, false, ◌&&◌, cond, List, [], ◌∷◌, ◌++◌, ℕ, ◌+◌, ◌≤◌, ◌<◌, length, take, drop, Float}
+use Rattle.std.specs.Prelude.{◌≡◌, Bool, true, false, ◌&&◌, cond, List, [], ◌∷◌, ◌++◌, Option, Some, None, ℕ, ◌+◌, ◌≤◌, ◌<◌, length, take, drop, Float}
 use Rattle.std.specs.Float.{binary64}
 use Rattle.std.specs.Float.Ieee.{fits, lt, le}
 use Rattle.order.specs.Choice.{min, max}
 use Rattle.consts.specs.Constants.{PI, NEG-PI}
 use Rattle.s1.specs.declared.interval.Interval.{Interval}
 use Rattle.s1.specs.Circle.{ends}
+use Rattle.s1.specs.Places.{holds}
 use Rattle.entries.specs.Lists.{All}
 use Rattle.arcs.specs.declared.clip.Cut.{Cut}
-use Rattle.arcs.specs.declared.clip.Clipped.{Clipped}
 use Rattle.arcs.specs.declared.sweep.Swept.{Swept}
-use Rattle.arcs.specs.CommonArcs.{some_holds}
-use Rattle.arcs.specs.Clipping.{cut, end_at, steps}
+use Rattle.arcs.specs.Clipping.{cut, steps}
 use Rattle.sort.specs.Permutations.{Permuted}
 
--- ---- room for n arcs, at most 512, and for one piece more
-pub record Room (n : ℕ) (west east lo hi : List Float) : Type 0 where
-  pub most : n ≤ 512
-  pub arcs : n ≤ length west
-  pub arcs-even : length west ≡ length east
-  pub pieces : n + 1 < length lo
-  pub pieces-even : length lo ≡ length hi
+-- ---- room for m pieces, and for one more with each arc: not too many to count
+pub record Room (m : ℕ) (arcs pieces : List Interval) : Type 0 where
+  pub most : m + length arcs ≤ 1000
+  pub holds : m + length arcs < length pieces
 
 -- ---- clipping
--- the first of l are the pieces found, which were m, cut by the arc i
-pub record IsCut (i : Interval) (found : List Interval) (m : ℕ) (c : Cut) (l : List Interval) : Type 0 where
+-- the eastern end of the last piece that holds s; o where none does
+unfoldable pub end_found : Float → Option Float → List Interval → Option Float
+end_found s o [] = o
+end_found s o (x ∷ l) = end_found s (cond (holds x s false) (Some x.hi) o) l
+
+-- the first of l are the pieces found cut by the arc i
+pub record IsCut (i : Interval) (found : List Interval) (c : Cut) (l : List Interval) : Type 0 where
   pub is : take c.n l ≡ cut i found
-  pub opens : c.open ≡ some_holds found i.lo false
-  pub end_is : c.end ≡ end_at i.lo i.hi found
-  pub few : c.n ≤ m
+  pub end_is : c.end ≡ end_found i.lo None found
+  pub few : c.n ≤ length found
 
--- the first n of l are the pieces p, at most one more than m
-pub record Firsts (n : ℕ) (l p : List Interval) (m : ℕ) : Type 0 where
+-- the first n of l are the pieces p, and no more than most
+pub record Firsts (n : ℕ) (l p : List Interval) (most : ℕ) : Type 0 where
   pub is : take n l ≡ p
-  pub few : n ≤ m + 1
-
--- the pieces found clipped by some of the n arcs, from first on: the first of l still have to be clipped by the arcs that are left, which are none
--- unless the pieces are more than most
-pub record IsClipped (arcs : List Interval) (first n most : ℕ) (found : List Interval) (c : Clipped) (l : List Interval) : Type 0 where
-  pub is : steps (take c.m l) (drop c.k arcs) ≡ steps found (drop first arcs)
-  pub up_to : c.k ≤ n
-  pub few : c.m ≤ c.k + 1
-  pub stops : c.k < n → most < c.m
+  pub few : n ≤ most
 
 -- ---- meeting
--- the pieces found clipped by some of the n arcs; where these are all, the first of l are what is left
-pub record IsTried (arcs : List Interval) (n : ℕ) (found : List Interval) (c : Clipped) (l : List Interval) : Type 0 where
-  pub is : c.k ≡ n → take c.m l ≡ steps found arcs
-  pub few : c.m ≤ n + 1
-
--- the first m of l are what is left of the piece x by the n arcs, in another order
-pub record IsMet (arcs : List Interval) (n : ℕ) (x : Interval) (m : ℕ) (l : List Interval) : Type 0 where
+-- the first m of l are what is left of the piece x by the arcs, in another order
+pub record IsMet (arcs : List Interval) (x : Interval) (m : ℕ) (l : List Interval) : Type 0 where
   pub others : List Interval
   pub permuted : Permuted arcs others
   pub is : take m l ≡ steps (x ∷ []) others
-  pub few : m ≤ n + 1
+  pub few : m ≤ length arcs + 1
 
 -- ---- sweeping: one piece clipped by arcs that cross the seam. The gap of such an arc is what it leaves out, between its eastern and its western end. The
 -- front are the first of the pieces found, which such an arc leaves as they are where it ends no earlier than they do
@@ -99,33 +86,21 @@ parted a x = cond (le x.lo a.hi) (ends x.lo a.hi ∷ ends (max x.lo a.lo) x.hi �
 unfoldable pub closed : Interval → Interval → List Interval
 closed a x = cond (le x.lo a.hi) (ends x.lo (min x.hi a.hi) ∷ []) []
 
--- the sweep of the piece start by the arcs from first on stopped at s: the first of l are settled, and with the piece after them they still have to be
--- clipped by the arcs that are left
-pub record IsSwept (arcs : List Interval) (first n : ℕ) (start : Interval) (s : Swept) (l : List Interval) : Type 0 where
-  pub is : steps (take s.f l ++ (s.x ∷ [])) (drop s.k arcs) ≡ steps (start ∷ []) (drop first arcs)
+-- the sweep of the piece start by the arcs stopped at s: the first of l are settled, and with the piece after them they still have to be clipped by the
+-- arcs that are left
+pub record IsSwept (arcs : List Interval) (start : Interval) (s : Swept) (l : List Interval) : Type 0 where
+  pub is : steps (take s.f l ++ (s.x ∷ [])) (drop s.k arcs) ≡ steps (start ∷ []) arcs
   pub settled : All (Settled s.b) (take s.f l)
   pub part : lt NEG-PI s.x.lo ≡ true
-  pub from : first ≤ s.k
-  pub up_to : s.k ≤ n
+  pub up_to : s.k ≤ length arcs
   pub few : s.f ≤ s.k
 
--- the piece x after the first f of l, closed by the arc a: the first r of l'
-pub record IsClosed (a x : Interval) (f : ℕ) (l : List Interval) (r : ℕ) (l' : List Interval) : Type 0 where
-  pub is : take r l' ≡ take f l ++ closed a x
-  pub few : r ≤ f + 1
+-- the first r arcs leave settled pieces as they are
+pub record Skipped (arcs : List Interval) (b : Float) (r : ℕ) : Type 0 where
+  pub is : (l : List Interval) → All (Settled b) l → steps l (drop r arcs) ≡ steps l arcs
+  pub up_to : r ≤ length arcs
 
--- the arcs from first up to r leave settled pieces as they are
-pub record Skipped (arcs : List Interval) (first n : ℕ) (b : Float) (r : ℕ) : Type 0 where
-  pub is : (l : List Interval) → All (Settled b) l → steps l (drop r arcs) ≡ steps l (drop first arcs)
-  pub from : first ≤ r
-  pub up_to : r ≤ n
-
--- the first r of l are the pieces p, which n arcs leave of one
-pub record Left (n r : ℕ) (l p : List Interval) : Type 0 where
-  pub is : take r l ≡ p
-  pub few : r ≤ n + 1
-
--- the piece x after the front, closed by the arc a, which is the arc k, and then clipped by the arcs after it
-pub record IsEnded (arcs : List Interval) (k n : ℕ) (a x : Interval) (front : List Interval) (r : ℕ) (l : List Interval) : Type 0 where
-  pub is : All (Settled a.hi) (front ++ closed a x) → take r l ≡ steps (front ++ closed a x) (drop (k + 1) arcs)
-  pub few : r ≤ n + 1
+-- the piece x after the first f of l, closed by the arc a and then clipped by the arcs: the first r of l'
+pub record IsEnded (arcs : List Interval) (a x : Interval) (f : ℕ) (l : List Interval) (r : ℕ) (l' : List Interval) : Type 0 where
+  pub is : All (Settled a.hi) (take f l ++ closed a x) → take r l' ≡ steps (take f l ++ closed a x) arcs
+  pub few : r ≤ f + 1 + length arcs

@@ -1,16 +1,16 @@
 // The common pieces of arcs: the pieces found so far, in rising order of their western ends, clipped by one
-// arc more, or by one after the other. They lie in two arrays, western ends in `lo` and eastern ends in
-// `hi`.
-ghost use Rattle.std.specs.Prelude.{◌≡◌, false, cond, not, ◌&&◌, ◌+◌, ◌<◌, ◌≤◌, length, take, eqb};
-ghost use Rattle.s1.specs.Circle.{fast_contains, is_full};
-ghost use Rattle.arcs.specs.Clipping.{before, sooner, insert, clip, step};
-ghost use Rattle.sort.specs.Arrays.{zip};
-ghost use Rattle.arcs.specs.Inside.{Room, IsCut, Firsts, IsClipped};
+// arc more, or by one after the other. They are the first of a lent array; how many they are stands beside
+// it, since they grow and shrink there and there is no heap.
+ghost use Rattle.std.specs.Prelude.{◌≡◌, cond, not, ◌&&◌, ◌+◌, ◌<◌, ◌≤◌, length, take, eqb, MatchOption};
+ghost use Rattle.s1.specs.Circle.{is_full};
+ghost use Rattle.arcs.specs.Clipping.{before, sooner, insert, clip, step, steps};
+ghost use Rattle.arcs.specs.Inside.{IsCut, Firsts, Room};
 
 use s1::circle;
 use s1::interval::Interval;
 
 // Whether x is met no later than y, going east from s.
+#[tactic(auto, unfolding(crate::specs::Clipping::before))]
 fn is_before(s: f64, x: f64, y: f64) -> bool
     ensures { result ≡ before s x y }
 {
@@ -22,6 +22,7 @@ fn is_before(s: f64, x: f64, y: f64) -> bool
 }
 
 // Of x and y, the one that is met first going east from s.
+#[tactic(auto, unfolding(crate::specs::Clipping::sooner))]
 fn sooner(s: f64, x: f64, y: f64) -> f64
     ensures { result ≡ sooner s x y }
 {
@@ -36,88 +37,72 @@ pub(crate) fn past(m: usize, keep: bool) -> usize
     if keep { m + 1 } else { m }
 }
 
-// The eastern end of x where it holds s, else e.
-fn end_of(x: Interval, s: f64, e: f64) -> f64
-    ensures { result ≡ cond (fast_contains x s) x.hi e }
-{
-    if circle::fast_contains(x, s) { x.hi } else { e }
-}
-
-// How many pieces are left, whether one held the arc's western end, and where that one ended.
+// How many pieces are left and, where one held the arc's western end, where that one ended.
 #[derive(Clone, Copy)]
 struct Cut {
     n: usize,
-    open: bool,
-    end: f64,
+    end: Option<f64>,
 }
 
-// The first n pieces that start in the arc a, each cut at its end.
-fn cut_all(lo: &mut [f64], hi: &mut [f64], n: usize, a: Interval) -> Cut
-    requires { (n ≤ 1024) × (n ≤ length lo.old) × (length lo.old ≡ length hi.old) }
-    ensures { IsCut a (take n (zip lo.old hi.old)) n result (zip lo.new hi.new) }
+// The pieces found that start in the arc a, each cut at its end: the first of `found` then.
+#[tactic(auto, using(crate::proofs::Turns::cutting))]
+fn cut_all(found: &mut [Interval], a: Interval) -> Cut
+    requires { length found.old ≤ 1024 }
+    ensures { IsCut a found.old result found.new }
 {
-    let s = a.lo;
-    let t = a.hi;
-    let mut m = 0;
-    let mut open = false;
-    let mut e = t;
-    let mut k = 0;
-    while k < n {
-        let x = Interval {
-            lo: lo[k],
-            hi: hi[k],
+    let mut n = 0;
+    let mut end = None;
+    for k in 0..found.len() {
+        let x = found[k];
+        if circle::fast_contains(x, a.lo) {
+            end = Some(x.hi);
+        }
+        found[n] = Interval {
+            lo: x.lo,
+            hi: sooner(x.lo, x.hi, a.hi),
         };
-        open = open | circle::fast_contains(x, s);
-        e = end_of(x, s, e);
-        lo[m] = x.lo;
-        hi[m] = sooner(x.lo, x.hi, t);
-        m = past(m, circle::fast_contains(a, x.lo));
-        k += 1;
+        n = past(n, circle::fast_contains(a, x.lo));
     }
-    Cut { n: m, open, end: e }
+    Cut { n, end }
 }
 
 // One piece more, put in its place among the first n. How many they are then.
-fn put(lo: &mut [f64], hi: &mut [f64], n: usize, x: Interval) -> usize
-    requires { (n ≤ 1024) × (n < length lo.old) × (length lo.old ≡ length hi.old) }
-    ensures { Firsts result (zip lo.new hi.new) (insert x (take n (zip lo.old hi.old))) n }
+#[tactic(auto, using(crate::proofs::Insertion::insertion))]
+fn put(pieces: &mut [Interval], n: usize, x: Interval) -> usize
+    requires { n < length pieces.old }
+    ensures { Firsts result pieces.new (insert x (take n pieces.old)) (n + 1) }
 {
     let mut c = x;
     let mut moved = false;
-    let mut i = 0;
-    while i < n {
-        let y = Interval {
-            lo: lo[i],
-            hi: hi[i],
-        };
+    for i in 0..n {
+        let y = pieces[i];
         if moved | (c.lo < y.lo) {
-            lo[i] = c.lo;
-            hi[i] = c.hi;
+            pieces[i] = c;
             c = y;
             moved = true;
         } else if !(y.lo < c.lo) {
             return n;
         }
-        i += 1;
     }
-    lo[n] = c.lo;
-    hi[n] = c.hi;
+    pieces[n] = c;
     n + 1
 }
 
 // The first n pieces, none of them FULL, clipped by an arc that is not FULL. How many they are then.
-pub(crate) fn clip_rest(lo: &mut [f64], hi: &mut [f64], n: usize, a: Interval) -> usize
-    requires { (n ≤ 1000) × (n < length lo.old) × (length lo.old ≡ length hi.old) }
-    ensures { Firsts result (zip lo.new hi.new) (clip (take n (zip lo.old hi.old)) a) n }
+#[tactic(auto, using(crate::proofs::Turns::clipping))]
+fn clip_rest(pieces: &mut [Interval], n: usize, a: Interval) -> usize
+    requires { (n ≤ 1000) × (n < length pieces.old) }
+    ensures { Firsts result pieces.new (clip (take n pieces.old) a) (n + 1) }
 {
-    let c = cut_all(lo, hi, n, a);
-    if !circle::is_empty(a) & c.open {
-        let e = sooner(a.lo, c.end, a.hi);
-        let y = Interval { lo: a.lo, hi: e };
-        let k = c.n;
-        return put(lo, hi, k, y);
+    let c = cut_all(&mut pieces[..n], a);
+    let Some(end) = c.end else {
+        return c.n;
+    };
+    if circle::is_empty(a) {
+        return c.n;
     }
-    c.n
+    let hi = sooner(a.lo, end, a.hi);
+    put(pieces, c.n, Interval { lo: a.lo, hi })
 }
 
 // Whether the first of m pieces is FULL.
@@ -128,63 +113,50 @@ fn is_whole(m: usize, x: Interval) -> bool
 }
 
 // The first m pieces clipped by one arc more. How many they are then.
-pub(crate) fn clip_one(lo: &mut [f64], hi: &mut [f64], m: usize, a: Interval) -> usize
-    requires { (m ≤ 1000) × (m < length lo.old) × (length lo.old ≡ length hi.old) }
-    ensures { Firsts result (zip lo.new hi.new) (step (take m (zip lo.old hi.old)) a) m }
+#[tactic(auto, using(crate::proofs::Turns::whole_is, crate::proofs::Turns::first_one), unfolding(crate::specs::Clipping::step))]
+pub(crate) fn clip_one(pieces: &mut [Interval], m: usize, a: Interval) -> usize
+    requires { (m ≤ 1000) × (m < length pieces.old) }
+    ensures { Firsts result pieces.new (step (take m pieces.old) a) (m + 1) }
 {
     if circle::is_full(a) {
         return m;
     }
-    let x = Interval {
-        lo: lo[0],
-        hi: hi[0],
-    };
-    if is_whole(m, x) {
+    if is_whole(m, pieces[0]) {
         if circle::is_empty(a) {
             return 0;
         }
-        lo[0] = a.lo;
-        hi[0] = a.hi;
+        pieces[0] = a;
         return 1;
     }
-    clip_rest(lo, hi, m, a)
+    clip_rest(pieces, m, a)
 }
 
-// How many arcs have clipped, and how many pieces there are then.
-#[derive(Clone, Copy)]
-pub(crate) struct Clipped {
-    pub(crate) k: usize,
-    pub(crate) m: usize,
-}
-
-// The first m pieces clipped by the arcs from first on, in the order in which they lie, as long as there
-// are no more than `most` pieces.
+// The first m pieces clipped by the arcs, in the order in which they lie: how many they are then. None where
+// they come to be more than `most` while arcs are left.
+#[tactic(auto, using(crate::proofs::Turns::turn_clips, crate::proofs::Turns::all_clipped))]
 pub(crate) fn clip_while(
-    west: &[f64],
-    east: &[f64],
-    first: usize,
-    n: usize,
-    lo: &mut [f64],
-    hi: &mut [f64],
+    arcs: &[Interval],
+    pieces: &mut [Interval],
     m: usize,
     most: usize,
-) -> Clipped
-    requires room { Room n west.now east.now lo.old hi.old }
-    requires first_le_n { (first ≤ n) × (m ≤ first + 1) }
-    ensures { IsClipped (take n (zip west.now east.now)) first n most (take m (zip lo.old hi.old)) result (zip lo.new hi.new) }
+) -> Option<usize>
+    requires { Room m arcs.now pieces.old }
+    ensures { MatchOption result (most < m + length arcs.now) (λ n. Firsts n pieces.new (steps (take m pieces.old) arcs.now) (m + length arcs.now)) }
 {
-    let mut s = m;
-    let mut k = first;
-    while k < n {
-        if s > most {
-            return Clipped { k, m: s };
+    let mut n = m;
+    for a in arcs.iter() {
+        if n > most {
+            return None;
         }
-        let a = Interval {
-            lo: west[k],
-            hi: east[k],
-        };
-        s = clip_one(lo, hi, s, a);
-        k += 1;
+        n = clip_one(pieces, n, *a);
     }
-    Clipped { k, m: s }
+    Some(n)
+}
+
+// The first m pieces clipped by the arcs, of which each adds one piece at most. How many they are then.
+pub(crate) fn clip_all(arcs: &[Interval], pieces: &mut [Interval], m: usize) -> usize
+    requires { Room m arcs.now pieces.old }
+    ensures { Firsts result pieces.new (steps (take m pieces.old) arcs.now) (m + length arcs.now) }
+{
+    clip_while(arcs, pieces, m, m + arcs.len()).unwrap()
 }

@@ -1,15 +1,14 @@
 // One piece clipped by arcs that cross the seam. The gap of such an arc is what it leaves out, between its
 // eastern and its western end. Where the arcs come in rising order of their eastern ends, each gap
 // touches only the last piece: those before it, the front, are settled, and the last one is kept out of the
-// arrays. That the arcs come so is tested at each one; where one does not, `clip` goes on.
-ghost use Rattle.std.specs.Prelude.{◌≡◌, true, [], ◌∷◌, ◌+◌, ◌<◌, ◌≤◌, length, take, drop};
+// array. That the arcs come so is tested at each one; where one does not, `clip` goes on.
+ghost use Rattle.std.specs.Prelude.{◌≡◌, true, [], ◌∷◌, ◌++◌, ◌+◌, ◌<◌, ◌≤◌, length, take};
 ghost use Rattle.std.specs.Float.Ieee.{lt};
 ghost use Rattle.consts.specs.Constants.{NEG-PI};
 ghost use Rattle.arcs.specs.Clipping.{steps};
-ghost use Rattle.sort.specs.Arrays.{zip};
-ghost use Rattle.arcs.specs.Inside.{Room, Spared, Passed, IsSwept, IsClosed, Skipped, Left, IsEnded};
+ghost use Rattle.arcs.specs.Inside.{Room, Firsts, Spared, Passed, closed, IsSwept, Skipped, IsEnded};
 
-use crate::clip::{clip_while, past};
+use crate::clip::{clip_all, past};
 use consts::{NEG_PI, PI};
 use s1::circle;
 use s1::interval::Interval;
@@ -24,6 +23,7 @@ struct Swept {
 }
 
 // Whether the arc leaves every piece that ends at b or before it as it is.
+#[tactic(auto, unfolding(crate::specs::Inside::spares))]
 fn spares(a: Interval, b: f64) -> bool
     ensures { Spared a b result }
 {
@@ -31,6 +31,7 @@ fn spares(a: Interval, b: f64) -> bool
 }
 
 // Whether the piece goes on past the gap of the arc, which spares the settled ones.
+#[tactic(auto, unfolding(crate::specs::Inside::passes))]
 fn passes(a: Interval, x: Interval) -> bool
     ensures { Passed a x result }
 {
@@ -41,177 +42,110 @@ fn passes(a: Interval, x: Interval) -> bool
     }
 }
 
-// The piece `start` clipped by the arcs from first on, as long as it goes on past the gap of each: a gap
-// parts it, or moves its western end. What is west of the gap is put after the settled ones, and counted
-// among them where there is anything: so there is no branch for a processor to foretell.
-fn sweep_last(
-    west: &[f64],
-    east: &[f64],
-    first: usize,
-    n: usize,
-    lo: &mut [f64],
-    hi: &mut [f64],
-    start: Interval,
-) -> Swept
-    requires room { Room n west.now east.now lo.old hi.old }
-    requires first_le_n { (first ≤ n) × (lt NEG-PI start.lo ≡ true) }
-    ensures { IsSwept (take n (zip west.now east.now)) first n start result (zip lo.new hi.new) }
+// The piece `start` clipped by the arcs, as long as it goes on past the gap of each: a gap parts it, or moves
+// its western end. What is west of the gap is put after the settled ones, and counted among them where there
+// is anything: so there is no branch for a processor to foretell.
+fn sweep_last(arcs: &[Interval], pieces: &mut [Interval], start: Interval) -> Swept
+    requires room { Room 1 arcs.now pieces.old }
+    requires part { lt NEG-PI start.lo ≡ true }
+    ensures { IsSwept arcs.now start result pieces.new }
 {
     let mut x = start;
     let mut f = 0;
     let mut b = NEG_PI;
-    let mut k = first;
-    while k < n {
-        let a = Interval {
-            lo: west[k],
-            hi: east[k],
-        };
+    for (k, a) in arcs.iter().enumerate() {
+        let a = *a;
         if !(spares(a, b) & passes(a, x)) {
             return Swept { k, f, b, x };
         }
-        lo[f] = x.lo;
-        hi[f] = a.hi;
+        pieces[f] = Interval { lo: x.lo, hi: a.hi };
         f = past(f, x.lo <= a.hi);
         x.lo = order::max(x.lo, a.lo);
         b = a.hi;
-        k += 1;
     }
-    Swept { k, f, b, x }
+    Swept {
+        k: arcs.len(),
+        f,
+        b,
+        x,
+    }
 }
 
 // What is left of a piece that ends before the gap of the arc does, put after the first f. How many they
 // are then.
-fn close(lo: &mut [f64], hi: &mut [f64], f: usize, a: Interval, x: Interval) -> usize
-    requires { (f ≤ 1000) × (f < length lo.old) × (length lo.old ≡ length hi.old) }
-    ensures { IsClosed a x f (zip lo.old hi.old) result (zip lo.new hi.new) }
+#[tactic(auto, using(crate::proofs::Lasts::put_last), unfolding(crate::specs::Inside::closed))]
+fn close(pieces: &mut [Interval], f: usize, a: Interval, x: Interval) -> usize
+    requires { f < length pieces.old }
+    ensures { Firsts result pieces.new (take f pieces.old ++ closed a x) (f + 1) }
 {
     if x.lo <= a.hi {
-        lo[f] = x.lo;
-        hi[f] = order::min(x.hi, a.hi);
+        pieces[f] = Interval {
+            lo: x.lo,
+            hi: order::min(x.hi, a.hi),
+        };
         return f + 1;
     }
     f
 }
 
-// The first arc from `first` on that does not spare pieces which end at `last` or before it.
-fn spared(west: &[f64], east: &[f64], first: usize, n: usize, last: f64) -> usize
-    requires { (first ≤ n) × (n ≤ 512) × (n ≤ length west.now) × (length west.now ≡ length east.now) }
-    ensures { Skipped (take n (zip west.now east.now)) first n last result }
+// How many of the arcs, from the first, spare pieces which end at `last` or before it.
+#[tactic(auto, using(crate::proofs::Lasts::skipped_turn))]
+fn spared(arcs: &[Interval], last: f64) -> usize
+    ensures { Skipped arcs.now last result }
 {
-    let mut k = first;
-    while k < n {
-        let a = Interval {
-            lo: west[k],
-            hi: east[k],
-        };
-        if !spares(a, last) {
+    // A `for`: over `position` the proof did not close.
+    for (k, a) in arcs.iter().enumerate() {
+        if !spares(*a, last) {
             return k;
         }
-        k += 1;
     }
-    k
+    arcs.len()
 }
 
-// The first m pieces clipped by the arcs from first on, whatever their order. How many they are then. Most
-// often no arc is left, and no call is made.
-fn clip_arcs(
-    west: &[f64],
-    east: &[f64],
-    first: usize,
-    n: usize,
-    lo: &mut [f64],
-    hi: &mut [f64],
-    m: usize,
-) -> usize
-    requires room { Room n west.now east.now lo.old hi.old }
-    requires first_le_n { (first ≤ n) × (m ≤ first + 1) }
-    ensures { Left n result (zip lo.new hi.new) (steps (take m (zip lo.old hi.old)) (drop first (take n (zip west.now east.now)))) }
+// The arc a closes the piece x after the first f; those of the arcs after it that spare what is left are
+// skipped, and the others clip it. How many pieces they are then.
+fn close_at(arcs: &[Interval], pieces: &mut [Interval], f: usize, a: Interval, x: Interval) -> usize
+    requires { Room (f + 1) arcs.now pieces.old }
+    ensures { IsEnded arcs.now a x f pieces.old result pieces.new }
 {
-    if first == n {
-        return m;
-    }
-    clip_while(west, east, first, n, lo, hi, m, n + 1).m
+    let m = close(pieces, f, a, x);
+    let j = spared(arcs, a.hi);
+    clip_all(&arcs[j..], pieces, m)
 }
 
-// The arc a, which is the arc k, closes the piece x after the first f; the arcs after it that spare what is
-// left are skipped, and the others clip it. How many pieces they are then.
-fn close_at(
-    west: &[f64],
-    east: &[f64],
-    k: usize,
-    n: usize,
-    lo: &mut [f64],
-    hi: &mut [f64],
-    f: usize,
-    a: Interval,
-    x: Interval,
-) -> usize
-    requires room { Room n west.now east.now lo.old hi.old }
-    requires k_lt_n { (k < n) × (f ≤ k) }
-    ensures { IsEnded (take n (zip west.now east.now)) k n a x (take f (zip lo.old hi.old)) result (zip lo.new hi.new) }
+// The piece x, which is not FULL, clipped by the arcs. How many pieces they are then.
+#[tactic(auto, using(crate::proofs::Lasts::put_last, crate::proofs::Turns::left_is))]
+fn sweep_from(arcs: &[Interval], pieces: &mut [Interval], x: Interval) -> usize
+    requires room { Room 1 arcs.now pieces.old }
+    requires part { lt NEG-PI x.lo ≡ true }
+    ensures { Firsts result pieces.new (steps (x ∷ []) arcs.now) (length arcs.now + 1) }
 {
-    let m = close(lo, hi, f, a, x);
-    let j = spared(west, east, k + 1, n, a.hi);
-    clip_arcs(west, east, j, n, lo, hi, m)
-}
-
-// The piece x, which is not FULL, clipped by the arcs from first on. How many pieces they are then.
-fn sweep_from(
-    west: &[f64],
-    east: &[f64],
-    first: usize,
-    n: usize,
-    lo: &mut [f64],
-    hi: &mut [f64],
-    x: Interval,
-) -> usize
-    requires room { Room n west.now east.now lo.old hi.old }
-    requires first_le_n { (first ≤ n) × (lt NEG-PI x.lo ≡ true) }
-    ensures { Left n result (zip lo.new hi.new) (steps (x ∷ []) (drop first (take n (zip west.now east.now)))) }
-{
-    let s = sweep_last(west, east, first, n, lo, hi, x);
-    let f = s.f;
-    let k = s.k;
-    let y = s.x;
-    if k < n {
-        let a = Interval {
-            lo: west[k],
-            hi: east[k],
-        };
-        if spares(a, s.b) & (y.lo <= y.hi) & (y.hi < a.lo) {
-            return close_at(west, east, k, n, lo, hi, f, a, y);
+    let s = sweep_last(arcs, pieces, x);
+    if s.k < arcs.len() {
+        let a = arcs[s.k];
+        if spares(a, s.b) & (s.x.lo <= s.x.hi) & (s.x.hi < a.lo) {
+            return close_at(&arcs[s.k + 1..], pieces, s.f, a, s.x);
         }
     }
-    lo[f] = y.lo;
-    hi[f] = y.hi;
-    clip_arcs(west, east, k, n, lo, hi, f + 1)
+    pieces[s.f] = s.x;
+    clip_all(&arcs[s.k..], pieces, s.f + 1)
 }
 
-// The piece x clipped by the first n arcs. How many pieces they are then. FULL is replaced by the first
-// arc.
-pub(crate) fn sweep(
-    west: &[f64],
-    east: &[f64],
-    n: usize,
-    lo: &mut [f64],
-    hi: &mut [f64],
-    x: Interval,
-) -> usize
-    requires room { Room n west.now east.now lo.old hi.old }
-    requires n_nonzero { 0 < n }
-    ensures { Left n result (zip lo.new hi.new) (steps (x ∷ []) (take n (zip west.now east.now))) }
+// The piece x clipped by the arcs, of which there is one. How many pieces they are then. FULL is replaced by
+// the first arc.
+#[tactic(auto, using(crate::proofs::Turns::first_one))]
+pub(crate) fn sweep(arcs: &[Interval], pieces: &mut [Interval], x: Interval) -> usize
+    requires room { Room 1 arcs.now pieces.old }
+    requires some { 0 < length arcs.now }
+    ensures { Firsts result pieces.new (steps (x ∷ []) arcs.now) (length arcs.now + 1) }
 {
     if NEG_PI < x.lo {
-        return sweep_from(west, east, 0, n, lo, hi, x);
+        return sweep_from(arcs, pieces, x);
     }
-    let a = Interval {
-        lo: west[0],
-        hi: east[0],
-    };
+    let a = arcs[0];
     if circle::is_full(x) & (NEG_PI < a.lo) & !circle::is_empty(a) {
-        return sweep_from(west, east, 1, n, lo, hi, a);
+        return sweep_from(&arcs[1..], pieces, a);
     }
-    lo[0] = x.lo;
-    hi[0] = x.hi;
-    clip_arcs(west, east, 0, n, lo, hi, 1)
+    pieces[0] = x;
+    clip_all(arcs, pieces, 1)
 }

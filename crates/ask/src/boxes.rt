@@ -1,12 +1,12 @@
 // The questions `bbox.`: a bbox array as a box, a box as a bbox array, and a box as a rectangle. A box is
 // asked with as its four whole numbers: west, south, east and north.
-ghost use Rattle.std.specs.Prelude.{◌+◌, ◌≤◌, length};
-ghost use Rattle.ask.specs.Room.{room};
+ghost use Rattle.ask.specs.Room.{longest, room, HasRoom, GrewBy};
 
-use crate::parse::Whole;
+use crate::print::Answers;
 use crate::rect::rect;
 use crate::reply::Reply;
 use crate::{parse, print};
+use bbox::Answer;
 use bounds::Bounds;
 
 // The most bytes of a text to read: a line has no room for the digits of more.
@@ -18,88 +18,43 @@ const MOST: usize = 99;
 // What each byte of an output text is before the call, so that one that is not written shows.
 const BEFORE: u8 = b'_';
 
-// A box as it is read, or that the bytes are none.
-#[derive(Clone, Copy)]
-enum Asked {
-    Of(Bounds),
-    Bad,
-}
-
-// Puts the answer to `bbox.read` at a place of out, and says where its line ends; s is what follows the
-// name.
-pub(crate) fn read(s: &[u8], at: usize, out: &mut [u8]) -> usize
-    requires { at + room ≤ length out.old }
-    ensures { result ≤ length out.new }
+// Puts the answer to `bbox.read`; s is what follows the name.
+pub(crate) fn read(s: &[u8], out: &mut Answers) -> Option<()>
+    requires { HasRoom out.old room }
+    ensures { GrewBy out.old out.new longest }
 {
-    let mut bytes = [0u8; LONGEST];
-    let count = parse::text(s, &mut bytes);
-    if count > LONGEST {
-        return print::unknown(at, out);
-    }
-    let a = bbox::read(&bytes[..count]);
-    print::bounds(a.refusal, a.value, at, out)
+    let bytes = parse::text::<LONGEST>(s)?;
+    let a = Answer::from(bbox::read(bytes.as_slice()));
+    print::bounds(a.refusal, a.value, out);
+    Some(())
 }
 
 // The same for `bbox.write`.
-pub(crate) fn write(s: &[u8], at: usize, out: &mut [u8]) -> usize
-    requires { at + room ≤ length out.old }
-    ensures { result ≤ length out.new }
+pub(crate) fn write(s: &[u8], out: &mut Answers) -> Option<()>
+    requires { HasRoom out.old room }
+    ensures { GrewBy out.old out.new longest }
 {
-    let n = parse::room_of(s);
-    let Asked::Of(b) = bounds(s, n.end) else {
-        return print::unknown(at, out);
-    };
-    written(b, n.count, at, out)
-}
-
-// The same for a box and a room n that are read.
-fn written(b: Bounds, n: usize, at: usize, out: &mut [u8]) -> usize
-    requires { at + room ≤ length out.old }
-    ensures { result ≤ length out.new }
-{
-    if n > MOST {
-        return print::unknown(at, out);
-    }
+    let (n, rest) = parse::room(s)?;
+    let b = bounds(rest)?;
     let mut x = [BEFORE; MOST];
-    put(b, &mut x[..n], at, out)
-}
-
-// The same for an output text that is made.
-fn put(b: Bounds, x: &mut [u8], at: usize, out: &mut [u8]) -> usize
-    requires room_in_bounds { at + room ≤ length out.old }
-    requires x_len_bound { length x.old ≤ 99 }
-    ensures { result ≤ length out.new }
-{
-    let w = bbox_text::write(b, x);
-    print::text(w.refusal, w.count, x, at, out)
+    let x = x.get_mut(..n)?;
+    let written = bbox_text::write(b, x);
+    print::text(written, x, out);
+    Some(())
 }
 
 // The answer to `bbox.rect`, of which s is what follows the name.
-pub(crate) fn to_rect(s: &[u8]) -> Reply {
-    let Asked::Of(b) = bounds(s, 0) else {
-        return Reply::Unknown;
-    };
-    rect(degrees::to_rect(b))
+pub(crate) fn to_rect(s: &[u8]) -> Option<Reply> {
+    Some(rect(degrees::to_rect(bounds(s)?)))
 }
 
-// Reads a box from a place to the last byte.
-fn bounds(s: &[u8], at: usize) -> Asked {
-    let Whole::Of(west, a) = parse::whole_at(s, at) else {
-        return Asked::Bad;
-    };
-    let Whole::Of(south, b) = parse::whole_at(s, a) else {
-        return Asked::Bad;
-    };
-    let Whole::Of(east, c) = parse::whole_at(s, b) else {
-        return Asked::Bad;
-    };
-    let Whole::Of(north, d) = parse::whole_at(s, c) else {
-        return Asked::Bad;
-    };
-    if d < s.len() {
-        return Asked::Bad;
-    }
-    Asked::Of(Bounds {
+// Reads a box, from the first byte to the last.
+fn bounds(s: &[u8]) -> Option<Bounds> {
+    let (west, s) = parse::whole(s)?;
+    let (south, s) = parse::whole(s)?;
+    let (east, s) = parse::whole(s)?;
+    let (north, s) = parse::whole(s)?;
+    s.is_empty().then_some(Bounds {
         west,
         south,
         east,

@@ -1,165 +1,102 @@
 // The questions `s1.`, and `r1.to_s1`, since a circle interval is its answer: what each operation on
 // circle intervals is asked with, and what it answers.
-use crate::parse::{Numbers, asks};
-use crate::reply::{Reply, either, number, test};
-use consts::ACCEPTED;
+use crate::reply::{Reply, number, test};
+use consts::Refusal;
 use r1::interval::{Answer as LineAnswer, Interval as Line};
 use s1::interval::{Answer, Interval};
 
-// The answer to a question of this layer. Operands come as they are asked with, unread: two intervals
-// a and b, or in the place of b a number p.
-pub(crate) fn reply(name: &[u8], count: usize, x: Numbers) -> Reply {
-    let p = x[2];
-    let a = Interval { lo: x[0], hi: x[1] };
-    let b = Interval { lo: p, hi: x[3] };
-    let intervals = either(made(name, count, a), changed(name, count, a, b, p));
-    let numbers = either(turned(name, count, a), measured(name, count, a, b));
-    let tests = either(tested(name, count, a), held(name, count, a, p));
-    let of_two = either(compared(name, count, a, b), alike(name, count, a, b, x[4]));
-    either(either(intervals, numbers), either(tests, of_two))
+// The answer to a question of this layer. Operands come as they are asked with, unread.
+pub(crate) fn reply(name: &[u8], numbers: &[f64]) -> Option<Reply> {
+    match (name, numbers) {
+        (b"s1.empty", []) => Some(interval(Ok(Interval::EMPTY))),
+        (b"s1.full", []) => Some(interval(Ok(Interval::FULL))),
+        (_, &[lo, hi]) => of_one(name, Interval { lo, hi }),
+        (_, &[lo, hi, p]) => with_number(name, Interval { lo, hi }, p),
+        (_, &[lo, hi, x, y]) => of_two(name, Interval { lo, hi }, Interval { lo: x, hi: y }),
+        (b"s1.approx_eq_by", &[lo, hi, x, y, max_error]) => {
+            let b = Interval { lo: x, hi: y };
+            Some(test(Interval { lo, hi }.approx_eq_by(b, max_error)))
+        }
+        _ => None,
+    }
 }
 
-// Intervals of the two numbers of i, or of none.
-fn made(name: &[u8], count: usize, i: Interval) -> Reply {
-    if asks(name, count, b"s1.empty", 0) {
-        return standard(Interval::EMPTY);
-    }
-    if asks(name, count, b"s1.full", 0) {
-        return standard(Interval::FULL);
-    }
-    if asks(name, count, b"s1.new", 2) {
-        return interval(Interval::new(i.lo, i.hi));
-    }
-    if asks(name, count, b"s1.from_point_pair", 2) {
-        return interval(Interval::from_point_pair(i.lo, i.hi));
-    }
-    Reply::Unknown
+// Of one interval, or of the two numbers that are its ends: intervals.
+fn of_one(name: &[u8], a: Interval) -> Option<Reply> {
+    Some(match name {
+        b"s1.new" => interval(Interval::new(a.lo, a.hi)),
+        b"s1.from_point_pair" => interval(Interval::from_point_pair(a.lo, a.hi)),
+        b"r1.to_s1" => interval(Interval::from_line(Line { lo: a.lo, hi: a.hi })),
+        b"s1.to_r1" => line(a.to_line()),
+        b"s1.invert" => interval(a.invert()),
+        b"s1.complement" => interval(a.complement()),
+        _ => return measured(name, a),
+    })
 }
 
-// Intervals of one interval.
-fn turned(name: &[u8], count: usize, a: Interval) -> Reply {
-    if asks(name, count, b"r1.to_s1", 2) {
-        return interval(Interval::from_line(Line { lo: a.lo, hi: a.hi }));
-    }
-    if asks(name, count, b"s1.to_r1", 2) {
-        return line(a.to_line());
-    }
-    if asks(name, count, b"s1.invert", 2) {
-        return interval(a.invert());
-    }
-    if asks(name, count, b"s1.complement", 2) {
-        return interval(a.complement());
-    }
-    Reply::Unknown
-}
-
-// Intervals of an interval and a number, or of two.
-fn changed(name: &[u8], count: usize, a: Interval, b: Interval, p: f64) -> Reply {
-    if asks(name, count, b"s1.expanded", 3) {
-        return interval(a.expanded(p));
-    }
-    if asks(name, count, b"s1.add", 3) {
-        return interval(a.add(p));
-    }
-    if asks(name, count, b"s1.union", 4) {
-        return interval(a.union(b));
-    }
-    if asks(name, count, b"s1.intersection", 4) {
-        return interval(a.intersection(b));
-    }
-    Reply::Unknown
-}
-
-// Numbers; the distance is from one number of a to the other.
-fn measured(name: &[u8], count: usize, a: Interval, b: Interval) -> Reply {
-    if asks(name, count, b"s1.positive_distance", 2) {
-        return number(Interval::positive_distance(a.lo, a.hi));
-    }
-    if asks(name, count, b"s1.center", 2) {
-        return number(a.center());
-    }
-    if asks(name, count, b"s1.complement_center", 2) {
-        return number(a.complement_center());
-    }
-    if asks(name, count, b"s1.len", 2) {
-        return number(a.len());
-    }
-    if asks(name, count, b"s1.hausdorff", 4) {
-        return number(a.directed_hausdorff_distance(b));
-    }
-    Reply::Unknown
+// Numbers; the distance is from one end to the other.
+fn measured(name: &[u8], a: Interval) -> Option<Reply> {
+    Some(match name {
+        b"s1.positive_distance" => number(Interval::positive_distance(a.lo, a.hi)),
+        b"s1.center" => number(a.center()),
+        b"s1.complement_center" => number(a.complement_center()),
+        b"s1.len" => number(a.len()),
+        _ => return tested(name, a),
+    })
 }
 
 // Tests of one interval.
-fn tested(name: &[u8], count: usize, a: Interval) -> Reply {
-    if asks(name, count, b"s1.is_valid", 2) {
-        return test(a.is_valid());
-    }
-    if asks(name, count, b"s1.is_full", 2) {
-        return test(a.is_full());
-    }
-    if asks(name, count, b"s1.is_empty", 2) {
-        return test(a.is_empty());
-    }
-    if asks(name, count, b"s1.is_inverted", 2) {
-        return test(a.is_inverted());
-    }
-    Reply::Unknown
+fn tested(name: &[u8], a: Interval) -> Option<Reply> {
+    Some(match name {
+        b"s1.is_valid" => test(a.is_valid()),
+        b"s1.is_full" => test(a.is_full()),
+        b"s1.is_empty" => test(a.is_empty()),
+        b"s1.is_inverted" => test(a.is_inverted()),
+        _ => return None,
+    })
 }
 
-// Tests of an interval and a point.
-fn held(name: &[u8], count: usize, a: Interval, p: f64) -> Reply {
-    if asks(name, count, b"s1.fast_contains", 3) {
-        return test(a.fast_contains(p));
-    }
-    if asks(name, count, b"s1.contains", 3) {
-        return test(a.contains(p));
-    }
-    if asks(name, count, b"s1.interior_contains", 3) {
-        return test(a.interior_contains(p));
-    }
-    Reply::Unknown
+// Of an interval and a number.
+fn with_number(name: &[u8], a: Interval, p: f64) -> Option<Reply> {
+    Some(match name {
+        b"s1.expanded" => interval(a.expanded(p)),
+        b"s1.add" => interval(Answer::grown(a, a.add(p))),
+        b"s1.fast_contains" => test(a.fast_contains(p)),
+        b"s1.contains" => test(a.contains(p)),
+        b"s1.interior_contains" => test(a.interior_contains(p)),
+        _ => return None,
+    })
 }
 
-// Tests of two intervals: whether one holds or meets the other.
-fn compared(name: &[u8], count: usize, a: Interval, b: Interval) -> Reply {
-    if asks(name, count, b"s1.contains_interval", 4) {
-        return test(a.contains_interval(b));
-    }
-    if asks(name, count, b"s1.interior_contains_interval", 4) {
-        return test(a.interior_contains_interval(b));
-    }
-    if asks(name, count, b"s1.intersects", 4) {
-        return test(a.intersects(b));
-    }
-    if asks(name, count, b"s1.interior_intersects", 4) {
-        return test(a.interior_intersects(b));
-    }
-    Reply::Unknown
+// Of two intervals.
+fn of_two(name: &[u8], a: Interval, b: Interval) -> Option<Reply> {
+    Some(match name {
+        b"s1.union" => interval(a.union(b)),
+        b"s1.intersection" => interval(a.intersection(b)),
+        b"s1.hausdorff" => number(a.directed_hausdorff_distance(b)),
+        _ => return compared(name, a, b),
+    })
 }
 
-// Whether two intervals are the same, or nearly so.
-fn alike(name: &[u8], count: usize, a: Interval, b: Interval, max_error: f64) -> Reply {
-    if asks(name, count, b"s1.eq", 4) {
-        return test(a.eq(b));
-    }
-    if asks(name, count, b"s1.approx_eq", 4) {
-        return test(a.approx_eq(b));
-    }
-    if asks(name, count, b"s1.approx_eq_by", 5) {
-        return test(a.approx_eq_by(b, max_error));
-    }
-    Reply::Unknown
+// Tests of two intervals.
+fn compared(name: &[u8], a: Interval, b: Interval) -> Option<Reply> {
+    Some(match name {
+        b"s1.contains_interval" => test(a.contains_interval(b)),
+        b"s1.interior_contains_interval" => test(a.interior_contains_interval(b)),
+        b"s1.intersects" => test(a.intersects(b)),
+        b"s1.interior_intersects" => test(a.interior_intersects(b)),
+        b"s1.eq" => test(a.eq(b)),
+        b"s1.approx_eq" => test(a.approx_eq(b)),
+        _ => return None,
+    })
 }
 
-fn standard(i: Interval) -> Reply {
-    Reply::Two(ACCEPTED, i.lo, i.hi)
-}
-
-fn interval(a: Answer) -> Reply {
+fn interval(a: impl Into<Answer>) -> Reply {
+    let a = a.into();
     Reply::Two(a.refusal, a.value.lo, a.value.hi)
 }
 
-fn line(a: LineAnswer) -> Reply {
+fn line(a: Result<Line, Refusal>) -> Reply {
+    let a = LineAnswer::from(a);
     Reply::Two(a.refusal, a.value.lo, a.value.hi)
 }

@@ -17,194 +17,146 @@ mod print;
 mod rect;
 mod reply;
 
-ghost use Rattle.std.specs.Prelude.{◌+◌, ◌≤◌, length};
-ghost use Rattle.io.specs.Counts.{IsPrefixLen};
-ghost use Rattle.ask.specs.Room.{room};
+ghost use Rattle.ask.specs.Room.{longest, room, HasRoom, GrewBy};
 
-use crate::parse::asks;
-use crate::print::ROOM;
+use crate::print::{Answers, CAPACITY, ROOM};
 use crate::reply::Reply;
+use arrayvec::ArrayVec;
 use std::io::Read;
 
 // A line of more bytes is no question.
 const LONGEST: usize = 200000;
 
-// How far a line's text and the output have come.
-#[derive(Clone, Copy)]
-struct Place {
-    // how many bytes of a line that has not ended stand in its buffer
-    text: usize,
-    // how many bytes of answers are not written yet
-    out: usize,
+// Room for one byte more than the longest question, so that a longer line is seen to be longer though
+// its rest is dropped.
+const HELD: usize = LONGEST + 1;
+
+// The most numbers that an operation takes, lists aside.
+const MOST: usize = 10;
+
+// What stands between two reads.
+#[derive(Drop)]
+struct Dialogue<'a, P> {
+    rt: &'a P,
+    // a line that has not ended
+    text: ArrayVec<u8, HELD>,
+    // the answers that are not written yet
+    answers: Answers,
 }
 
-// The buffers are made once. The text's has room for one byte more than the longest question, so that
-// a longer line is seen to be longer though its rest is dropped.
 fn main(rt: HostRuntime) {
-    let mut chunk = io::large_buffer();
-    let mut text = [0u8; LONGEST + 1];
-    let mut out = io::large_buffer();
-    serve(&rt, &mut rt.stdin(), &mut chunk, &mut text, &mut out);
+    let mut dialogue = Dialogue {
+        rt: &rt,
+        text: ArrayVec::new(),
+        answers: ArrayVec::new(),
+    };
+    dialogue.serve(&mut rt.stdin());
 }
 
-// Answers every line, and ends with the input. A proved loop has to end, and nothing says that the
-// input does: so the loop counts its turns, up to a number that no run uses up.
-fn serve<R: Read>(
-    rt: &(impl Print + Eprint),
-    reader: &mut R,
-    chunk: &mut [u8],
-    text: &mut [u8],
-    out: &mut [u8],
-)
-    requires { room ≤ length out.old }
-{
-    let mut held = 0;
-    for _ in 0..u64::MAX {
-        let n = fill(reader, chunk);
-        if n == 0 {
-            return finish(rt, held, text, out);
+impl<P: Print + Eprint> Dialogue<'_, P> {
+    // Answers every line, and ends with the input, or where that cannot be read. A proved loop has to end,
+    // and nothing says that the input does: so the loop counts its turns, up to a number that no run uses up.
+    fn serve<R: Read>(&mut self, reader: &mut R) {
+        let mut chunk = io::large_buffer();
+        for _ in 0..u64::MAX {
+            match reader.read(&mut chunk) {
+                Ok(0) | Err(_) => return self.finish(),
+                Ok(n) => self.take_all(&chunk[..n]),
+            }
         }
-        held = take_all(rt, &chunk[..n], held, text, out);
+    }
+
+    // Answers the last line where it lacks its newline.
+    fn finish(&mut self) {
+        if !self.text.is_empty() {
+            self.take_all(b"\n");
+        }
+    }
+
+    // Takes the bytes of one read. Writes the answers to the lines that end in them, so that who asks by
+    // hand is answered at once.
+    fn take_all(&mut self, bytes: &[u8]) {
+        for &b in bytes {
+            self.take(b);
+        }
+        self.write();
+    }
+
+    // Takes one byte: the end of a line, or one more byte of its text.
+    fn take(&mut self, b: u8) {
+        if b == b'\n' {
+            self.make_room();
+            if put_answer(self.text.as_slice(), &mut self.answers).is_none() {
+                print::unknown(&mut self.answers);
+            }
+            self.text.clear();
+        } else {
+            // Where the line is too long already, the byte is dropped.
+            let _ = self.text.try_push(b);
+        }
+    }
+
+    // Writes the answers that wait where another one may not fit behind them.
+    fn make_room(&mut self)
+        ensures { HasRoom self.new.answers room }
+    {
+        if self.answers.len() > CAPACITY - ROOM {
+            self.write();
+        }
+    }
+
+    // Writes the answers that wait. What cannot be written, as on a full disk, is told on standard error;
+    // the exit status stays 0.
+    fn write(&mut self)
+        ensures { HasRoom self.new.answers room }
+    {
+        if self.rt.write_all(self.answers.as_slice()).is_err() {
+            // Where this cannot be written either, nobody is left to tell.
+            let _ = self.rt.eprintln("ask: answers cannot be written");
+        }
+        self.answers.clear();
     }
 }
 
-// Reads what there is, as far as the buffer goes. 0: the input has ended, or cannot be read.
-fn fill<R: Read>(reader: &mut R, chunk: &mut [u8]) -> usize
-    ensures { IsPrefixLen result chunk.new }
-{
-    match reader.read(chunk) {
-        Ok(n) => n,
-        Err(_) => 0,
-    }
-}
-
-// Answers the last line where it lacks its newline.
-fn finish(rt: &(impl Print + Eprint), held: usize, text: &mut [u8], out: &mut [u8])
-    requires room_in_bounds { room ≤ length out.old }
-    requires held_in_bounds { held ≤ length text.old }
-{
-    if held > 0 {
-        take_all(rt, b"\n", held, text, out);
-    }
-}
-
-// Takes the bytes of one read, after `held` bytes of a line that has not ended. Writes the answers to
-// the lines that end in them, so that who asks by hand is answered at once, and says how many bytes
-// are held then.
-fn take_all(
-    rt: &(impl Print + Eprint),
-    bytes: &[u8],
-    held: usize,
-    text: &mut [u8],
-    out: &mut [u8],
-) -> usize
-    requires room_in_bounds { room ≤ length out.old }
-    requires held_in_bounds { held ≤ length text.old }
-    ensures { result ≤ length text.new }
-{
-    let mut p = Place { text: held, out: 0 };
-    let mut i = 0;
-    while i < bytes.len() {
-        p = take(rt, bytes[i], p, text, out);
-        i += 1;
-    }
-    let at = p.out;
-    put(rt, &out[..at]);
-    p.text
-}
-
-// Takes one byte: the end of a line, or one more byte of its text.
-fn take(rt: &(impl Print + Eprint), b: u8, p: Place, text: &mut [u8], out: &mut [u8]) -> Place
-    requires room_in_bounds { room ≤ length out.old }
-    requires text_in_bounds { (p.text ≤ length text.old) × (p.out ≤ length out.old) }
-    ensures { (result.text ≤ length text.new) × (result.out ≤ length out.new) }
-{
-    let n = p.text;
-    if b == b'\n' {
-        let at = answer_line(rt, &text[..n], p.out, out);
-        return Place { text: 0, out: at };
-    }
-    if n < text.len() {
-        text[n] = b;
-        return Place {
-            text: n + 1,
-            out: p.out,
-        };
-    }
-    p
-}
-
-// Puts a line's answer after those that wait. Apart are `common`, `bbox.read` and `bbox.write`, whose
+// Puts a line's answer, unless it is no question. Apart are `common`, `bbox.read` and `bbox.write`, whose
 // answers are a list, a box and a text.
-fn answer_line(rt: &(impl Print + Eprint), s: &[u8], at: usize, out: &mut [u8]) -> usize
-    requires room_in_bounds { room ≤ length out.old }
-    requires at_in_bounds { at ≤ length out.old }
-    ensures { result ≤ length out.new }
+fn put_answer(s: &[u8], out: &mut Answers) -> Option<()>
+    requires { HasRoom out.old room }
+    ensures { GrewBy out.old out.new longest }
 {
-    let from = make_room(rt, at, out);
     if s.len() > LONGEST {
-        return print::unknown(from, out);
+        return None;
     }
-    let end = parse::name_end(s);
-    let name = &s[..end];
-    let rest = &s[end..];
-    if check::same(name, b"common") {
-        return common::reply(rest, from, out);
-    }
-    if check::same(name, b"bbox.read") {
-        return boxes::read(rest, from, out);
-    }
-    if check::same(name, b"bbox.write") {
-        return boxes::write(rest, from, out);
-    }
-    print::reply(answer(name, rest), from, out)
-}
-
-// Writes the answers that wait where another one may not fit behind them.
-fn make_room(rt: &(impl Print + Eprint), at: usize, out: &mut [u8]) -> usize
-    requires room_in_bounds { room ≤ length out.old }
-    requires at_in_bounds { at ≤ length out.old }
-    ensures { result + room ≤ length out.new }
-{
-    if at > out.len() - ROOM {
-        put(rt, &out[..at]);
-        return 0;
-    }
-    at
-}
-
-// Writes answers. What cannot be written, as on a full disk, is told on standard error; the exit status
-// stays 0.
-fn put(rt: &(impl Print + Eprint), answers: &[u8]) {
-    if rt.write_all(answers).is_err() {
-        // Where this cannot be written either, nobody is left to tell.
-        let _ = rt.eprintln("ask: answers cannot be written");
+    let (name, rest) = parse::name(s);
+    match name {
+        b"common" => common::reply(rest, out),
+        b"bbox.read" => boxes::read(rest, out),
+        b"bbox.write" => boxes::write(rest, out),
+        _ => {
+            print::reply(answer(name, rest)?, out);
+            Some(())
+        }
     }
 }
 
 // The answer to any other question, of which s is what follows the name. Apart are those whose operands
 // are not only numbers: `rect.vertex`, `growth` and `running`, and `bbox.rect`.
-fn answer(name: &[u8], s: &[u8]) -> Reply {
-    if check::same(name, b"bbox.rect") {
-        return boxes::to_rect(s);
+fn answer(name: &[u8], s: &[u8]) -> Option<Reply> {
+    match name {
+        b"bbox.rect" => boxes::to_rect(s),
+        b"rect.vertex" => rect::vertex(s),
+        b"running" => points::running(s),
+        b"growth" => points::growth(s),
+        _ => of_numbers(name, parse::numbers::<MOST>(s)?.as_slice()),
     }
-    if check::same(name, b"rect.vertex") {
-        return rect::vertex(s);
-    }
-    let runs = check::same(name, b"running");
-    if runs | check::same(name, b"growth") {
-        return points::reply(runs, s);
-    }
-    of_numbers(name, s)
 }
 
 // The answer to a question with numbers alone.
-fn of_numbers(name: &[u8], s: &[u8]) -> Reply {
-    let mut x = [0.0; parse::MOST];
-    let count = parse::numbers(s, &mut x);
-    if asks(name, count, b"remainder", 1) {
-        return reply::number(consts::remainder(x[0]));
+fn of_numbers(name: &[u8], numbers: &[f64]) -> Option<Reply> {
+    if let (b"remainder", [x]) = (name, numbers) {
+        return Some(reply::number(consts::remainder(*x)));
     }
-    let intervals = reply::either(line::reply(name, count, x), circle::reply(name, count, x));
-    reply::either(intervals, rect::reply(name, count, x))
+    line::reply(name, numbers)
+        .or_else(|| circle::reply(name, numbers))
+        .or_else(|| rect::reply(name, numbers))
 }

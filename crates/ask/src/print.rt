@@ -1,232 +1,207 @@
 // Writes an answer: the refusal number in decimal, then each result after a single space, a number in
 // the 16 upper-case hexadecimal digits of its bit pattern, yes or no as 1 or 0, unbounded as U, a count
 // and a whole number in decimal, a text as it is.
-ghost use Rattle.std.specs.Prelude.{◌≡◌, ◌+◌, ◌*◌, ◌≤◌, ◌<◌, length};
-ghost use Rattle.ask.specs.Room.{room};
+//
+// Without heap, a `write!` does not say that there was room for what it wrote: so there is no Display here,
+// and each function has the room that it takes in its contract.
+ghost use Rattle.std.specs.Prelude.{◌+◌, ◌*◌, ◌≤◌, length};
+ghost use Rattle.ask.specs.Room.{longest, room, HasRoom, GrewBy};
 
 use crate::reply::Reply;
+use arrayvec::ArrayVec;
 use bounds::Bounds;
-use entries::of_entry;
-use region::Pieces;
+use consts::Refusal;
+use entries::{Fault, of_entry};
 
-// No answer's line has more bytes.
+// The room of an answer's line.
 pub const ROOM: usize = 36000;
 
-// Puts an answer's line at a place of out, and says where it ends.
-pub(crate) fn reply(a: Reply, at: usize, out: &mut [u8]) -> usize
-    requires { at + room ≤ length out.old }
-    ensures { result ≤ length out.new }
+// How many bytes of answers may wait to be written.
+pub const CAPACITY: usize = 65536;
+
+// The answers that are not written yet.
+pub type Answers = ArrayVec<u8, CAPACITY>;
+
+// Puts an answer's line.
+pub(crate) fn reply(a: Reply, out: &mut Answers)
+    requires { HasRoom out.old room }
+    ensures { GrewBy out.old out.new longest }
 {
-    let end = answer(a, at, out);
-    put(b"\n", end, out)
+    answer(a, out);
+    put(b"\n", out);
 }
 
-// Puts the answer without its newline.
-fn answer(a: Reply, at: usize, out: &mut [u8]) -> usize
-    requires { at + room ≤ length out.old }
-    ensures { result + 1 ≤ at + room }
+// Puts the answer without its newline. None has more bytes than a count and four numbers take.
+fn answer(a: Reply, out: &mut Answers)
+    requires { HasRoom out.old 109 }
+    ensures { GrewBy out.old out.new 109 }
 {
     match a {
-        Reply::Unknown => put(b"?", at, out),
-        Reply::Test(n, yes) => mark(sign(yes), refusal(n, at, out), out),
-        Reply::One(n, x) => numbers(&[x], refusal(n, at, out), out),
-        Reply::Two(n, x, y) => numbers(&[x, y], refusal(n, at, out), out),
-        Reply::Four(n, w, x, y, z) => numbers(&[w, x, y, z], refusal(n, at, out), out),
-        Reply::Counted(n, k, w, x, y, z) => numbers(&[w, x, y, z], counted(n, k, at, out), out),
-        Reply::Unbounded(n) => mark(b'U', refusal(n, at, out), out),
+        Reply::Test(n, yes) => {
+            refusal(n, out);
+            put(if yes { b" 1" } else { b" 0" }, out);
+        }
+        Reply::One(n, x) => results(n, &[x], out),
+        Reply::Two(n, x, y) => results(n, &[x, y], out),
+        Reply::Four(n, w, x, y, z) => results(n, &[w, x, y, z], out),
+        Reply::Counted(n, k, w, x, y, z) => {
+            counted(n, k, out);
+            numbers(&[w, x, y, z], out);
+        }
+        Reply::Unbounded(n) => {
+            refusal(n, out);
+            put(b" U", out);
+        }
     }
 }
 
-// Puts the line that answers what is no question.
-pub(crate) fn unknown(at: usize, out: &mut [u8]) -> usize
-    requires { at + room ≤ length out.old }
-    ensures { result ≤ length out.new }
+// Puts a refusal number and the results under it.
+fn results(n: u8, x: &[f64], out: &mut Answers)
+    requires { HasRoom out.old (20 + 17 * length x.now) }
+    ensures { GrewBy out.old out.new (20 + 17 * length x.now) }
 {
-    put(b"?\n", at, out)
+    refusal(n, out);
+    numbers(x, out);
+}
+
+// Puts the line that answers what is no question.
+pub(crate) fn unknown(out: &mut Answers)
+    requires { HasRoom out.old 2 }
+{
+    put(b"?\n", out);
 }
 
 // Puts the line of a common region: the refusal, with its entry where an entry is refused, the count of its
 // pieces, and the list that they are in.
-pub(crate) fn pieces(p: Pieces, x: &[f64], at: usize, out: &mut [u8]) -> usize
-    requires room_in_bounds { at + room ≤ length out.old }
+pub(crate) fn pieces(found: Result<usize, Fault>, x: &[f64], out: &mut Answers)
+    requires has_room { HasRoom out.old room }
     requires x_len_bound { length x.now ≤ 2052 }
-    ensures { result ≤ length out.new }
+    ensures { GrewBy out.old out.new longest }
 {
-    let head = put(b" ", refused(p.refusal, p.entry, at, out), out);
-    let end = numbers(x, decimal(p.count as u64, head, out), out);
-    put(b"\n", end, out)
+    match found {
+        Ok(count) => counted(0, count, out),
+        Err(fault) => refused(fault, out),
+    }
+    numbers(x, out);
+    put(b"\n", out);
 }
 
 // Puts the line of a text: the refusal, the count of the bytes that are written, and the text that they
 // are in.
-pub(crate) fn text(n: u8, count: usize, s: &[u8], at: usize, out: &mut [u8]) -> usize
-    requires room_in_bounds { at + room ≤ length out.old }
+pub(crate) fn text(written: Result<usize, Refusal>, s: &[u8], out: &mut Answers)
+    requires has_room { HasRoom out.old room }
     requires s_len_bound { length s.now ≤ 99 }
-    ensures { result ≤ length out.new }
+    ensures { GrewBy out.old out.new longest }
 {
-    let end = word(s, counted(n, count, at, out), out);
-    put(b"\n", end, out)
+    match written {
+        Ok(count) => counted(0, count, out),
+        Err(why) => counted(why.into(), 0, out),
+    }
+    word(s, out);
+    put(b"\n", out);
 }
 
 // Puts the line of a box: the refusal and its four numbers.
-pub(crate) fn bounds(n: u8, b: Bounds, at: usize, out: &mut [u8]) -> usize
-    requires { at + room ≤ length out.old }
-    ensures { result ≤ length out.new }
+pub(crate) fn bounds(n: u8, b: Bounds, out: &mut Answers)
+    requires { HasRoom out.old room }
+    ensures { GrewBy out.old out.new longest }
 {
-    let end = wholes(b, refusal(n, at, out), out);
-    put(b"\n", end, out)
+    refusal(n, out);
+    whole(b.west, out);
+    whole(b.south, out);
+    whole(b.east, out);
+    whole(b.north, out);
+    put(b"\n", out);
 }
 
 // Puts a refusal number.
-fn refusal(n: u8, at: usize, out: &mut [u8]) -> usize
-    requires { at + 20 ≤ length out.old }
-    ensures { result ≤ at + 20 }
+fn refusal(n: u8, out: &mut Answers)
+    requires { HasRoom out.old 20 }
+    ensures { GrewBy out.old out.new 20 }
 {
-    decimal(n as u64, at, out)
+    decimal(n as u64, out);
 }
 
-// Puts a refusal number, with ` at ` and its entry where it is one of an entry.
-fn refused(n: u8, entry: usize, at: usize, out: &mut [u8]) -> usize
-    requires { at + 44 ≤ length out.old }
-    ensures { result ≤ at + 44 }
+// Puts a refusal number, with ` at ` and its entry where it is one of an entry, and the count 0.
+fn refused(fault: Fault, out: &mut Answers)
+    requires { HasRoom out.old 65 }
+    ensures { GrewBy out.old out.new 65 }
 {
-    let end = refusal(n, at, out);
-    if of_entry(n) {
-        return decimal(entry as u64, put(b" at ", end, out), out);
+    let number = fault.refusal.into();
+    refusal(number, out);
+    if of_entry(number) {
+        put(b" at ", out);
+        decimal(fault.entry as u64, out);
     }
-    end
+    put(b" 0", out);
 }
 
 // Puts a refusal number, a space and a count.
-fn counted(n: u8, count: usize, at: usize, out: &mut [u8]) -> usize
-    requires { at + 41 ≤ length out.old }
-    ensures { result ≤ at + 41 }
+fn counted(n: u8, count: usize, out: &mut Answers)
+    requires { HasRoom out.old 41 }
+    ensures { GrewBy out.old out.new 41 }
 {
-    let head = put(b" ", refusal(n, at, out), out);
-    decimal(count as u64, head, out)
+    refusal(n, out);
+    put(b" ", out);
+    decimal(count as u64, out);
 }
 
 // Puts a space and a text, or nothing where it is empty.
-fn word(s: &[u8], at: usize, out: &mut [u8]) -> usize
-    requires { at + 1 + length s.now ≤ length out.old }
-    ensures { result ≤ at + 1 + length s.now }
+fn word(s: &[u8], out: &mut Answers)
+    requires { HasRoom out.old (1 + length s.now) }
+    ensures { GrewBy out.old out.new (1 + length s.now) }
 {
-    if s.len() == 0 {
-        return at;
+    if !s.is_empty() {
+        put(b" ", out);
+        put(s, out);
     }
-    put(s, put(b" ", at, out), out)
-}
-
-// Puts each number of a box after a space.
-fn wholes(b: Bounds, at: usize, out: &mut [u8]) -> usize
-    requires { at + 88 ≤ length out.old }
-    ensures { result ≤ at + 88 }
-{
-    let west = whole(b.west, at, out);
-    let south = whole(b.south, west, out);
-    let east = whole(b.east, south, out);
-    whole(b.north, east, out)
 }
 
 // Puts a space and a whole number.
-fn whole(z: i64, at: usize, out: &mut [u8]) -> usize
-    requires { at + 22 ≤ length out.old }
-    ensures { result ≤ at + 22 }
+fn whole(z: i64, out: &mut Answers)
+    requires { HasRoom out.old 22 }
+    ensures { GrewBy out.old out.new 22 }
 {
-    decimal(size(z), minus(z, at, out), out)
-}
-
-// Puts a space, and a minus where the number is below zero.
-fn minus(z: i64, at: usize, out: &mut [u8]) -> usize
-    requires { at + 2 ≤ length out.old }
-    ensures { result ≤ at + 2 }
-{
-    if z < 0 {
-        return put(b" -", at, out);
-    }
-    put(b" ", at, out)
-}
-
-// The size of a whole number. That of the least is no i64, so one is added last.
-fn size(z: i64) -> u64 {
-    if z < 0 {
-        return (-1 - z) as u64 + 1;
-    }
-    z as u64
+    put(if z < 0 { b" -" } else { b" " }, out);
+    decimal(z.unsigned_abs(), out);
 }
 
 // Puts a number in decimal; none has more than 20 digits.
-fn decimal(n: u64, at: usize, out: &mut [u8]) -> usize
-    requires { at + 20 ≤ length out.old }
-    ensures { result ≤ at + 20 }
+fn decimal(n: u64, out: &mut Answers)
+    requires { HasRoom out.old 20 }
+    ensures { GrewBy out.old out.new 20 }
 {
     let mut digits = [0u8; 20];
     let count = io::decimal(n, &mut digits);
-    put(&digits[..count], at, out)
-}
-
-// Puts a space and a letter.
-fn mark(b: u8, at: usize, out: &mut [u8]) -> usize
-    requires { at + 2 ≤ length out.old }
-    ensures { result ≡ at + 2 }
-{
-    put(&[b' ', b], at, out)
-}
-
-fn sign(yes: bool) -> u8 {
-    if yes { b'1' } else { b'0' }
+    put(&digits[..count], out);
 }
 
 // Puts each number after a space.
-fn numbers(x: &[f64], at: usize, out: &mut [u8]) -> usize
-    requires { at + 17 * length x.now ≤ length out.old }
-    ensures { result ≡ at + 17 * length x.now }
+fn numbers(x: &[f64], out: &mut Answers)
+    requires { HasRoom out.old (17 * length x.now) }
+    ensures { GrewBy out.old out.new (17 * length x.now) }
 {
-    let mut end = at;
-    let mut i = 0;
-    while i < x.len() {
-        end = number(x[i], end, out);
-        i += 1;
+    for &v in x {
+        number(v, out);
     }
-    end
 }
 
-// Puts a space and a number, from its last digit to the first.
-fn number(x: f64, at: usize, out: &mut [u8]) -> usize
-    requires { at + 17 ≤ length out.old }
-    ensures { result ≡ at + 17 }
+// Puts a space and a number.
+fn number(x: f64, out: &mut Answers)
+    requires { HasRoom out.old 17 }
+    ensures { GrewBy out.old out.new 17 }
 {
-    let mut rest = bits::pattern(x);
-    let mut i = 16;
-    while i > 0 {
-        out[at + i] = digit(rest % 16);
-        rest /= 16;
-        i -= 1;
-    }
-    out[at] = b' ';
-    at + 17
-}
-
-// A hexadecimal digit, in upper case.
-fn digit(d: u64) -> u8
-    requires { d < 16 }
-{
-    if d < 10 {
-        b'0' + d as u8
-    } else {
-        b'A' + (d - 10) as u8
-    }
+    let mut digits = [0u8; 16];
+    io::hex(bits::pattern(x), 16, &mut digits);
+    digits.make_ascii_uppercase();
+    put(b" ", out);
+    put(&digits, out);
 }
 
 // Puts a text.
-fn put(s: &[u8], at: usize, out: &mut [u8]) -> usize
-    requires { at + length s.now ≤ length out.old }
-    ensures { result ≡ at + length s.now }
+fn put(s: &[u8], out: &mut Answers)
+    requires { HasRoom out.old (length s.now) }
+    ensures { GrewBy out.old out.new (length s.now) }
 {
-    let mut i = 0;
-    while i < s.len() {
-        out[at + i] = s[i];
-        i += 1;
-    }
-    at + i
+    out.try_extend_from_slice(s).unwrap();
 }

@@ -1,10 +1,9 @@
-// What a question is answered with, before it is text: a refusal number, and the result beside it.
-use consts::{Number, YesNo};
+// What a question is answered with, before it is text: a refusal number, and the result that stands beside it,
+// as C is handed them.
+use consts::{Number, Refusal, YesNo};
 
 #[derive(Clone, Copy)]
 pub enum Reply {
-    // The line is no question.
-    Unknown,
     Test(u8, bool),
     One(u8, f64),
     Two(u8, f64, f64),
@@ -15,18 +14,12 @@ pub enum Reply {
     Unbounded(u8),
 }
 
-pub(crate) fn test(a: YesNo) -> Reply {
+pub(crate) fn test(a: Result<bool, Refusal>) -> Reply {
+    let a = YesNo::from(a);
     Reply::Test(a.refusal, a.value)
 }
 
-pub(crate) fn number(a: Number) -> Reply {
+pub(crate) fn number(a: Result<f64, Refusal>) -> Reply {
+    let a = Number::from(a);
     Reply::One(a.refusal, a.value)
-}
-
-// The first of two replies, unless the second alone is known.
-pub(crate) fn either(a: Reply, b: Reply) -> Reply {
-    if let Reply::Unknown = a {
-        return b;
-    }
-    a
 }

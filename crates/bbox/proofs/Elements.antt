@@ -9,8 +9,7 @@ use borrow.Author.Tests.{eqb-true, lt-leb, eq-eqb, ne_eqb}
 use lib.Dec.{eqb}
 use lib.ListN.{get_or, length, drop, length-append}
 use lib.IntN.{ℤ}
-use Rattle.bbox.specs.declared.number.Reading.{Reading}
-use Rattle.bbox.specs.declared.number.Reading.TheVariants.{Got, Bad}
+use Rattle.bbox.specs.Reading.{Reading, Got, Bad}
 use Rattle.bbox_text.specs.Grammar.{is_digit, is_space, are_spaces, Element, is-element}
 use Rattle.bbox.specs.Reading.{number_of, skip_of, spaces_of, mark_of, element_of}
 use Rattle.bounds.proofs.Tests.{and_left, and_right}

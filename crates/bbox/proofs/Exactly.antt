@@ -10,11 +10,9 @@ use lib.Dec.{ltb, eqb}
 use lib.ListN.{get_or, length, drop, length-drop, drop_of_length-le}
 use lib.IntN.{ℤ}
 use Rattle.bounds.specs.declared.bounds.Bounds.{Bounds}
-use Rattle.bbox.specs.declared.number.Reading.{Reading}
-use Rattle.bbox.specs.declared.number.Reading.TheVariants.{Got, Bad}
+use Rattle.bbox.specs.Reading.{Reading, Got, Bad}
 use Rattle.bbox.specs.declared.reader.Answer.{Answer}
-use Rattle.bbox.specs.declared.reader.Four.{Four}
-use Rattle.bbox.specs.declared.reader.Four.TheVariants.{Numbers, Not}
+use Rattle.bbox.specs.Reading.{Four, Numbers, Not}
 use Rattle.bounds.specs.Bounds.{in_limits, placed}
 use Rattle.bbox_text.specs.Grammar.{is_digit, is_space, Element, Array, is-array}
 use Rattle.bbox.specs.Reading.{spaces_of, element_of, then_of, four_of, zeros_under, judged_of, read_of}

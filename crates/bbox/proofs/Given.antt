@@ -7,8 +7,7 @@ use Prim.Native.Nat.{ℕ}
 use native.Mathlib.Omega.{arith}
 use Rattle.bounds.specs.declared.bounds.Bounds.{Bounds}
 use Rattle.bbox.specs.declared.reader.Answer.{Answer}
-use Rattle.bbox.specs.declared.reader.Four.{Four}
-use Rattle.bbox.specs.declared.reader.Four.TheVariants.{Numbers, Not}
+use Rattle.bbox.specs.Reading.{Four, Numbers, Not}
 use Rattle.bounds.specs.Bounds.{in_limits, placed, givable}
 use Rattle.bbox_text.specs.Grammar.{Array}
 use Rattle.bbox.specs.Reading.{four_of, zeros_under, judged_of, read_of}

@@ -6,3 +6,4 @@ pub mod Given
 pub mod Round
 pub mod Examples
 pub mod Promises
+pub mod Determined

@@ -13,8 +13,7 @@ use lib.Pow.{pow-add}
 use lib.IntN.{ℤ}
 use Rattle.text.specs.Text.{digit_value, value}
 use Rattle.bbox.specs.declared.number.Run.{Run}
-use Rattle.bbox.specs.declared.number.Reading.{Reading}
-use Rattle.bbox.specs.declared.number.Reading.TheVariants.{Got, Bad}
+use Rattle.bbox.specs.Reading.{Reading, Got, Bad}
 use Rattle.bbox_text.specs.Grammar.{is_digit, are_digits, Int, zero-alone, one-to-three, Frac, no-point, with-point, is_space, minus_text, signed, Number, is_number}
 use Rattle.bbox.specs.Reading.{turn_of, turns_of, whole_of, got_of, fraction_of, point_of, magnitude_of, number_of}
 use Rattle.bounds.proofs.Tests.{and_left, and_right}

@@ -1,16 +1,19 @@
 -- What stands at a position of a text: a byte that is not 0 stands inside it; a turn adds one digit to the value, so that the whole degrees stay under 1,000
--- and a number under ten billion; spaces are passed one by one. By the tests of one turn, and induction on the count of turns. Assumes nothing.
+-- and a number under ten billion; spaces are passed one by one, and are those at the front of what is left. By the tests of one turn, and induction on the
+-- count of turns. Assumes nothing.
 use mathlib.Core.Path.{◌≡◌, refl, sym, ap, ◌∙◌}
 use mathlib.Core.Bool.{Bool, true, false, cond}
 use mathlib.Core.List.{List, [], ◌∷◌, ◌++◌}
 use Prim.Native.Nat.{ℕ, zero, suc, ◌+◌, ◌-◌, ◌*◌, ◌^◌, ◌≤◌, ◌<◌}
-use native.Mathlib.Nat.{pow-suc, mul_assoc, mul_comm, mul-le-mul_right}
+use native.Mathlib.Nat.{pow-suc, mul_assoc, mul_comm, mul-le-mul_right, mul-le-mul_left, pow-le-pow_right}
 use native.Mathlib.Numerals.{add-one}
 use native.Mathlib.Omega.{arith}
 use borrow.Author.Tests.{ltb-true, ltb-false}
 use lib.Dec.{ltb, eqb}
-use lib.ListN.{get_or, length, drop, length-drop, get_or-eq_default}
+use lib.ListN.{get_or, length, take, drop, length-drop, get_or-eq_default, drop_of_length-le}
 use lib.Seq.{get_or-drop, drop-drop, drop-cons, drop-append_seam}
+use Rattle.std.proofs.Common.{take_all}
+use Rattle.std.specs.List.{prefix_len}
 use Rattle.bbox_text.proofs.Digits.{digit-high}
 use Rattle.bbox.specs.declared.number.Run.{Run}
 use Rattle.bbox_text.specs.Grammar.{is_digit, is_space}
@@ -61,6 +64,24 @@ turns-bound (suc n) pad s r =
     let e : (r.value + 1) * 10 * 10 ^ n ≡ (r.value + 1) * 10 ^ suc n = mul_assoc (r.value + 1) 10 (10 ^ n) ∙ ap (λ (k : ℕ). (r.value + 1) * k) (mul_comm 10 (10 ^ n) ∙ sym (pow-suc 10 n)) in
     omega (arith, turns-bound n pad s (turn_of pad s r))
 
+-- one more turn, and the bound of them all
+pub turns_more : (n : ℕ) (pad : Bool) (s : List ℕ) (r : Run) → turns_of (n + 1) pad s r ≡ turn_of pad s (turns_of n pad s r)
+unfolding turns_of
+turns_more n pad s r = ap (λ (k : ℕ). turns_of k pad s r) (add-one n) ∙ go n r
+  where
+    go : (n : ℕ) (r : Run) → turns_of (suc n) pad s r ≡ turn_of pad s (turns_of n pad s r)
+    go zero r = refl
+    go (suc n) r = go n (turn_of pad s r)
+
+pub turns_within : (i n : ℕ) (pad : Bool) (s : List ℕ) (r t : Run) → t ≡ turns_of i pad s r → i ≤ n → t.value < (r.value + 1) * 10 ^ n
+turns_within i n pad s r t e h =
+    let m : (r.value + 1) * 10 ^ i ≤ (r.value + 1) * 10 ^ n = mul-le-mul_left (r.value + 1) (pow-le-pow_right {n = 10} (omega arith) h) in
+    omega (arith, turns-bound i pad s r, ap (λ (u : Run). u.value) e)
+
+pub no_turns : (pad : Bool) (s : List ℕ) (r : Run) → r ≡ turns_of 0 pad s r
+unfolding turns_of
+no_turns pad s r = refl
+
 pub whole-bound : (s : List ℕ) (at : ℕ) → (whole_of s at).value < 1000
 unfolding whole_of
 whole-bound s at = go (eqb (get_or s at 0) 48)
@@ -97,3 +118,30 @@ unfolding spaces_of skip_of
 space-end s i h =
     let k : length s - i ≡ 0 = omega arith in
     rw k refl
+
+-- the last of these, under a name that src/ can give
+pub space_end : (s : List ℕ) (i : ℕ) → length s ≤ i → spaces_of s i ≡ i
+space_end s i h = space-end s i h
+
+-- as many as stand at the front of what is left
+passed : (s : List ℕ) (at : ℕ) → at + prefix_len is_space (drop at s) ≡ spaces_of s at
+unfolding spaces_of skip_of
+passed s at = go (length s - at) at refl
+  where
+    go : (n at : ℕ) → length s - at ≡ n → at + prefix_len is_space (drop at s) ≡ skip_of n s at
+    go zero at e =
+        let d : drop at s ≡ [] = drop_of_length-le s (omega arith) in
+        ap (λ (l : List ℕ). at + prefix_len is_space l) d ∙ omega arith
+    go (suc n) at e =
+        let d : drop at s ≡ get_or s at 0 ∷ drop (at + 1) s = drop-cons s at 0 (omega arith) ∙ ap (λ (k : ℕ). get_or s at 0 ∷ drop k s) (sym (add-one at)) in
+        ap (λ (l : List ℕ). at + prefix_len is_space l) d ∙ by-test (is_space (get_or s at 0)) (go n (at + 1) (omega arith))
+      where
+        by-test : (b : Bool) → at + 1 + prefix_len is_space (drop (at + 1) s) ≡ skip_of n s (at + 1)
+            → at + cond b (1 + prefix_len is_space (drop (at + 1) s)) 0 ≡ cond b (skip_of n s (at + 1)) at
+        by-test true h = omega (arith, h)
+        by-test false h = omega arith
+
+pub skipped : (s : List ℕ) (at n : ℕ) → n ≡ prefix_len is_space (take (length s - at) (drop at s)) → at + n ≡ spaces_of s at
+skipped s at n e =
+    let d : take (length s - at) (drop at s) ≡ drop at s = take_all (length s - at) (drop at s) (simp length-drop (omega arith)) in
+    ap (λ (k : ℕ). at + k) e ∙ ap (λ (l : List ℕ). at + prefix_len is_space l) d ∙ passed s at

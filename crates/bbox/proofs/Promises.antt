@@ -13,11 +13,11 @@ use lib.IntN.{ℤ, pos, neg_ℤ, nat_abs}
 use lib.Signed.{lt_z}
 use Rattle.consts.specs.Refusal.{number, accepted, no_room, bad_text, bad_box}
 use Rattle.entries.specs.Lists.{All}
-use Rattle.text.specs.declared.text.Written.{Written}
+use Rattle.text.specs.Answers.{Written}
 use Rattle.text.specs.Answers.{refused_with, wrote, Stands}
 use Rattle.bounds.specs.declared.bounds.Bounds.{Bounds}
 use Rattle.bbox.specs.declared.reader.Answer.{Answer}
-use Rattle.bbox.specs.declared.reader.Four.TheVariants.{Numbers}
+use Rattle.bbox.specs.Reading.{Numbers}
 use Rattle.bbox_text.specs.Grammar.{Number, Array}
 use Rattle.bounds.specs.Bounds.{HALF, in_limits, is_westmost, is_eastmost, whole_circle, seam_read, placed, givable}
 use Rattle.bbox.specs.Reading.{four_of, zeros_under, read_of}
@@ -59,7 +59,8 @@ unfolding placed
 every-other-180 b h = simp h
 
 -- within the limits the tests tell -180 and 180
-pub is-180 : (b : Bounds) → in_limits b ≡ true → (is_westmost b.west ≡ true → b.west ≡ neg_ℤ (pos HALF)) × (is_westmost b.east ≡ true → b.east ≡ neg_ℤ (pos HALF)) × (is_eastmost b.east ≡ true → b.east ≡ pos HALF)
+pub is-180 : (b : Bounds) → in_limits b ≡ true
+    → (is_westmost b.west ≡ true → b.west ≡ neg_ℤ (pos HALF)) × (is_westmost b.east ≡ true → b.east ≡ neg_ℤ (pos HALF)) × (is_eastmost b.east ≡ true → b.east ≡ pos HALF)
 is-180 b h = let l = boxes.limits b h in (boxes.westmost b.west l.west, boxes.westmost b.east l.east, boxes.eastmost b.east l.east)
 
 -- the boxes that reading gives are those, and each of them is given, for its own text
@@ -100,10 +101,13 @@ bad-text s = (exactly.bad-text-only s, (λ h. ap (λ (a : Answer). a.refusal) (e
 
 -- "then 9 for a number out of range, south above north"
 pub bad-box : (s : List ℕ) (b : Bounds) → Array s b → ((read_of s).refusal ≡ number bad_box) ↔ (in_limits b ≡ false)
-bad-box s b x = ((λ h. go (in_limits b) (sym (ap (λ (a : Answer). a.refusal) (exactly.read-array s b x)) ∙ h)), (λ h. ap (λ (a : Answer). a.refusal) (exactly.read-array s b x) ∙ ap (λ (t : Bool). (answer t).refusal) h))
+bad-box s b x = ((λ h. go (in_limits b) (sym e ∙ h)), (λ h. e ∙ ap (λ (t : Bool). (answer t).refusal) h))
   where
     answer : Bool → Answer
     answer t = cond t (record { refusal = number accepted; value = placed b }) (zeros_under (number bad_box))
+
+    e : (read_of s).refusal ≡ (answer (in_limits b)).refusal
+    e = ap (λ (a : Answer). a.refusal) (exactly.read-array s b x)
 
     go : (t : Bool) → (answer t).refusal ≡ number bad_box → t ≡ false
     go true e = absurd (omega arith)

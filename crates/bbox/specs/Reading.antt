@@ -2,13 +2,12 @@
 -- as they are allowed, so that one digit too many, or a digit after a leading zero, stands where a mark must. Definitions only; that just the texts of
 -- the grammar (the crate bbox_text, specs/Grammar.antt) are accepted, with their meaning, is in proofs/Exactly.antt.
 use Rattle.std.specs.Prelude.{Bool, true, false, cond, List, ℕ, zero, suc, ◌+◌, ◌-◌, ◌*◌, ltb, eqb, get_or, length, ℤ, pos}
-use Rattle.consts.specs.Refusal.{number, accepted, bad_text, bad_box}
+use Rattle.std.specs.Prelude.{Option, None, Some, Result, Ok, Err}
+use Rattle.consts.specs.declared.refusal.Refusal.{Refusal}
+use Rattle.consts.specs.Refusal.{number, accepted, bad_text, bad_box, code}
 use Rattle.bbox.specs.declared.number.Run.{Run}
-use Rattle.bbox.specs.declared.number.Reading.{Reading}
-use Rattle.bbox.specs.declared.number.Reading.TheVariants.{Got, Bad}
 use Rattle.bbox.specs.declared.reader.Answer.{Answer}
-use Rattle.bbox.specs.declared.reader.Four.{Four}
-use Rattle.bbox.specs.declared.reader.Four.TheVariants.{Numbers, Not}
+use Rattle.bounds.specs.declared.bounds.Bounds.{Bounds}
 use Rattle.bounds.specs.Bounds.{in_limits, placed}
 use Rattle.bbox_text.specs.Grammar.{is_digit, is_space, signed}
 
@@ -26,6 +25,15 @@ turns_of (suc n) pad s r = turns_of n pad s (turn_of pad s r)
 -- the whole degrees: a zero alone, or up to three digits
 unfoldable pub whole_of : List ℕ → ℕ → Run
 whole_of s at = cond (eqb (get_or s at 0) 48) (turns_of 1 false s (record { value = 0; next = at })) (turns_of 3 false s (record { value = 0; next = at }))
+
+-- what stands at a position: a number and the position after it, or no number
+pub data Reading : Type 0 where
+  Got : ℤ → ℕ → Reading
+  Bad : Reading
+
+abbrev pub reading_of : Option (ℤ × ℕ) → Reading
+reading_of None = Bad
+reading_of (Some r) = Got r.0 r.1
 
 unfoldable pub got_of : Bool → ℕ → ℕ → Reading
 got_of minus size next = Got (signed minus size) next
@@ -64,6 +72,15 @@ mark_of s mark (Got z n) = cond (eqb (get_or s (spaces_of s n) 0) mark) (Got z (
 unfoldable pub element_of : List ℕ → ℕ → ℕ → Reading
 element_of s at mark = mark_of s mark (number_of s (spaces_of s at))
 
+-- the four numbers of an array, or a text that is none
+pub data Four : Type 0 where
+  Numbers : Bounds → Four
+  Not : Four
+
+abbrev pub numbers_of : Option Bounds → Four
+numbers_of None = Not
+numbers_of (Some b) = Numbers b
+
 unfoldable pub then_of : Reading → (ℤ → ℕ → Four) → Four
 then_of Bad k = Not
 then_of (Got z n) k = k z n
@@ -83,6 +100,11 @@ four_of s =
 -- a refused reading answers four zeros
 abbrev pub zeros_under : ℕ → Answer
 zeros_under n = record { refusal = n; value = record { west = pos 0; south = pos 0; east = pos 0; north = pos 0 } }
+
+-- what a result stands for
+abbrev pub answer_of : Result Bounds Refusal → Answer
+answer_of (Ok b) = record { refusal = number accepted; value = b }
+answer_of (Err r) = zeros_under (code r)
 
 -- 8 for a text that is none, then 9 for a number out of range or the south above the north
 unfoldable pub judged_of : Four → Answer

@@ -1,13 +1,14 @@
 // Reads a bbox array from a lent text: RFC 7946's four numbers, between JSON's spaces.
-ghost use Rattle.std.specs.Prelude.{◌≡◌, ◌<◌};
+ghost use Rattle.std.specs.Prelude.{◌≡◌, ◌<◌, ◌≤◌, length};
+ghost use Rattle.std.specs.List.{prefix_len};
 ghost use Rattle.bbox_text.specs.Grammar.{is_space};
-ghost use Rattle.bbox.specs.Reading.{spaces_of, element_of, four_of, zeros_under, read_of};
+ghost use Rattle.bbox.specs.Reading.{spaces_of, reading_of, element_of, numbers_of, four_of, answer_of, read_of};
 
-use crate::number::{Reading, byte, number};
+use crate::number::{byte, number};
 use bounds::{Bounds, is_in_limits, place};
-use consts::{ACCEPTED, BAD_BOX, BAD_TEXT};
+use consts::Refusal;
 
-// What reading gives: 0 and the box, or a refusal and four zeros.
+// What reading gives, as C has it: 0 and the box, or a refusal and four zeros.
 #[repr(C)]
 #[derive(Clone, Copy)]
 pub struct Answer {
@@ -15,78 +16,86 @@ pub struct Answer {
     pub value: Bounds,
 }
 
-// The four numbers of an array, or a text that is none.
-#[derive(Clone, Copy)]
-pub(crate) enum Four {
-    Numbers(Bounds),
-    Not,
+// Laws: none of its own.
+// Ruled out: of [1, 2, 3, 4]: [2, 1, 3, 4]; of a refusal with 9: [1, 0, 0, 0] under 9; of the same: four zeros under 0.
+impl From<Result<Bounds, Refusal>> for Answer {
+    ghost from_gives = { λ r y. y ≡ answer_of r };
+
+    fn from(r: Result<Bounds, Refusal>) -> Answer {
+        match r {
+            Ok(value) => Answer { refusal: 0, value },
+            Err(why) => Answer {
+                refusal: why.into(),
+                value: Bounds {
+                    west: 0,
+                    south: 0,
+                    east: 0,
+                    north: 0,
+                },
+            },
+        }
+    }
 }
 
 // JSON's four spaces.
+#[tactic(auto, unfolding(bbox_text::specs::Grammar::is_space))]
 fn is_space(b: u8) -> bool
     ensures { result ≡ is_space b }
 {
-    (b == b' ') | (b == b'\t') | (b == b'\n') | (b == b'\r')
+    matches!(b, b' ' | b'\t' | b'\n' | b'\r')
+}
+
+// How many spaces a text begins with.
+fn leading_spaces(s: &[u8]) -> usize
+    ensures value { result ≡ prefix_len is_space s.now }
+    ensures bound { result ≤ length s.now }
+{
+    s.iter().take_while(|b| is_space(**b)).count()
 }
 
 // The position after the spaces at a position.
+#[tactic(auto, using(crate::proofs::Positions::skipped, crate::proofs::Positions::space_end))]
 fn spaces(s: &[u8], at: usize) -> usize
     ensures { result ≡ spaces_of s.now at }
 {
-    let mut i = at;
-    while i < s.len() {
-        if is_space(s[i]) {
-            i += 1;
-        } else {
-            return i;
-        }
+    if at < s.len() {
+        at + leading_spaces(&s[at..])
+    } else {
+        at
     }
-    i
 }
 
-// A number between spaces, with the mark that ends it.
-fn element(s: &[u8], at: usize, mark: u8) -> Reading
+// A number between spaces, with the mark that ends it, and the position after the mark.
+#[tactic(auto, unfolding(crate::specs::Reading::element_of, crate::specs::Reading::mark_of))]
+fn element(s: &[u8], at: usize, mark: u8) -> Option<(i64, usize)>
     requires { 0 < mark }
-    ensures { result ≡ element_of s.now at mark }
+    ensures { reading_of result ≡ element_of s.now at mark }
 {
-    let start = spaces(s, at);
-    let found = number(s, start);
-    match found {
-        Reading::Got(d, next) => {
-            let end = spaces(s, next);
-            if byte(s, end) == mark {
-                return Reading::Got(d, end + 1);
-            }
-            Reading::Bad
-        }
-        Reading::Bad => Reading::Bad,
+    let (degrees, next) = number(s, spaces(s, at))?;
+    let end = spaces(s, next);
+    if byte(s, end) != mark {
+        return None;
     }
+    Some((degrees, end + 1))
 }
 
 // The four numbers of a text.
-fn four_at(s: &[u8]) -> Four
-    ensures { result ≡ four_of s.now }
+#[tactic(auto, unfolding(crate::specs::Reading::four_of, crate::specs::Reading::then_of))]
+fn four_at(s: &[u8]) -> Option<Bounds>
+    ensures { numbers_of result ≡ four_of s.now }
 {
     let open = spaces(s, 0);
     if byte(s, open) != b'[' {
-        return Four::Not;
+        return None;
     }
-    let Reading::Got(west, a) = element(s, open + 1, b',') else {
-        return Four::Not;
-    };
-    let Reading::Got(south, b) = element(s, a, b',') else {
-        return Four::Not;
-    };
-    let Reading::Got(east, c) = element(s, b, b',') else {
-        return Four::Not;
-    };
-    let Reading::Got(north, d) = element(s, c, b']') else {
-        return Four::Not;
-    };
+    let (west, a) = element(s, open + 1, b',')?;
+    let (south, b) = element(s, a, b',')?;
+    let (east, c) = element(s, b, b',')?;
+    let (north, d) = element(s, c, b']')?;
     if spaces(s, d) < s.len() {
-        return Four::Not;
+        return None;
     }
-    Four::Numbers(Bounds {
+    Some(Bounds {
         west,
         south,
         east,
@@ -94,36 +103,19 @@ fn four_at(s: &[u8]) -> Four
     })
 }
 
-// A refused reading answers four zeros.
-fn refused(refusal: u8) -> Answer
-    ensures { result ≡ zeros_under refusal }
-{
-    let value = Bounds {
-        west: 0,
-        south: 0,
-        east: 0,
-        north: 0,
-    };
-    Answer { refusal, value }
-}
-
 // Reads a bbox array: 8 for bad text, then 9 for a number out of range or the south above the north.
 // Laws: over the grammar, `Array`: Exactly.read-array, Exactly.bad-text, Exactly.bad-text-only,
 // Exactly.one-meaning; Given.accepted-is, Given.reads-given, Given.zeros.
 // Ruled out: of `[01,0,0,0]`: a box; of `[-180,0,0,0]`: west -180; of `[0,91,0,0`: 9 (it is 8: the
 // whole text first); of `[0,1,0,0]`: a box.
-pub fn read(s: &[u8]) -> Answer
-    ensures { result ≡ read_of s.now }
+#[tactic(auto, unfolding(crate::specs::Reading::read_of, crate::specs::Reading::judged_of))]
+pub fn read(s: &[u8]) -> Result<Bounds, Refusal>
+    ensures { answer_of result ≡ read_of s.now }
 {
-    let Four::Numbers(b) = four_at(s) else {
-        return refused(BAD_TEXT);
-    };
+    let b = four_at(s).ok_or(Refusal::BadText)?;
     if is_in_limits(b) {
-        let value = place(b);
-        return Answer {
-            refusal: ACCEPTED,
-            value,
-        };
+        Ok(place(b))
+    } else {
+        Err(Refusal::BadBox)
     }
-    refused(BAD_BOX)
 }

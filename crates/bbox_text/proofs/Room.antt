@@ -13,7 +13,7 @@ use Rattle.bounds.specs.declared.bounds.Bounds.{Bounds}
 use Rattle.bounds.specs.Bounds.{HALF, QUARTER, within, in_limits, is_westmost, is_eastmost, whole_circle, settled, givable}
 use Rattle.bbox_text.specs.Grammar.{Frac, no-point, with-point}
 use Rattle.bbox_text.specs.Text.{decimals, frac_text, size_text, number_text, element_text, text_of}
-use Rattle.bounds.proofs.Boxes.{InLimits, limits, given-limits, within-size}
+use Rattle.bounds.proofs.Boxes.{InLimits, limits, given-limits, within-size, sizes}
 use Rattle.bbox_text.proofs.Written.{frac-written}
 use Rattle.bbox_text.proofs.Fewest.{few-enough, text-length}
 
@@ -41,7 +41,25 @@ longitude-room z h = number-room 3 z (omega arith) (omega (arith, within-size HA
 pub latitude-room : (z : ℤ) → within QUARTER z ≡ true → length (number_text z) ≤ 11
 latitude-room z h = number-room 2 z (omega arith) (omega (arith, within-size QUARTER z h))
 
--- ---- a box
+-- any that the writer can write
+pub number_fits : (z : ℤ) → nat_abs z < 10000000000 → length (number_text z) ≤ 12
+number_fits z h = number-room 3 z (omega arith) (omega arith)
+
+-- ---- a box: each of its numbers can be written
+pub west_size : (b : Bounds) → givable b ≡ true → nat_abs b.west < 10000000000
+west_size b h = (sizes b h).0
+
+pub south_size : (b : Bounds) → givable b ≡ true → nat_abs b.south < 10000000000
+south_size b h = (sizes b h).1
+
+pub east_size : (b : Bounds) → givable b ≡ true → nat_abs b.east < 10000000000
+east_size b h = (sizes b h).2
+
+pub north_size : (b : Bounds) → givable b ≡ true → nat_abs b.north < 10000000000
+north_size b h = (sizes b h).3
+
+pub ruleset box_sizes = (west_size, south_size, east_size, north_size)
+
 pub longest : (b : Bounds) → givable b ≡ true → length (text_of b) ≤ 51
 longest b h =
     let l : InLimits b = limits b (given-limits b h) in

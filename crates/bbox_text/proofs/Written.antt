@@ -17,7 +17,8 @@ use Rattle.text.proofs.Lengths.{one-digit, two_digits, three-digits, few-digits}
 use Rattle.text.proofs.Digits.{decimal-reads}
 use Rattle.bounds.specs.declared.bounds.Bounds.{Bounds}
 use Rattle.bounds.specs.Bounds.{givable}
-use Rattle.bbox_text.specs.Grammar.{is_digit, are_digits, are_spaces, Int, zero-alone, one-to-three, Frac, no-point, with-point, minus_text, signed, Number, is_number, Element, is-element, Array, is-array}
+use Rattle.bbox_text.specs.Grammar.{is_digit, are_digits, are_spaces, Int, zero-alone, one-to-three, Frac, no-point, with-point, minus_text, signed}
+use Rattle.bbox_text.specs.Grammar.{Number, is_number, Element, is-element, Array, is-array}
 use Rattle.bbox_text.specs.Text.{decimals, frac_text, size_text, number_text, element_text, text_of}
 use Rattle.bounds.proofs.Boxes.{sizes}
 
@@ -176,7 +177,8 @@ unfolding decimal_text
 digit-first w t = go (ltb w 10) (ltb w 100)
   where
     go : (b c : Bool)
-        → 48 ≤ get_or (cond b (hex_digit w ∷ []) (cond c (hex_digit (w / 10) ∷ (hex_digit (w % 10) ∷ [])) (hex_digit (w / 100) ∷ (hex_digit (w / 10 % 10) ∷ (hex_digit (w % 10) ∷ [])))) ++ t) 0 0
+        → 48 ≤ get_or (cond b (hex_digit w ∷ []) (cond c (hex_digit (w / 10) ∷ (hex_digit (w % 10) ∷ []))
+        (hex_digit (w / 100) ∷ (hex_digit (w / 10 % 10) ∷ (hex_digit (w % 10) ∷ [])))) ++ t) 0 0
     go true c = low_digit w
     go false true = low_digit (w / 10)
     go false false = low_digit (w / 100)

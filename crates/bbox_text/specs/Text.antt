@@ -3,8 +3,7 @@
 use Rattle.std.specs.Prelude.{cond, List, [], ◌∷◌, ◌++◌, ℕ, zero, suc, ◌+◌, ◌/◌, ◌%◌, ◌^◌, eqb, ℤ, pos, negsuc}
 use Rattle.consts.specs.Refusal.{number, bad_box}
 use Rattle.text.specs.Text.{decimal_text}
-use Rattle.text.specs.Answers.{refused_with, wrote, left}
-use Rattle.text.specs.declared.text.Written.{Written}
+use Rattle.text.specs.Answers.{Written, refused_with, wrote, left}
 use Rattle.bounds.specs.declared.bounds.Bounds.{Bounds}
 use Rattle.bounds.specs.Bounds.{givable}
 

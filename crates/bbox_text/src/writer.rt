@@ -1,158 +1,123 @@
 // Writes a box as a bbox array into a lent text: fewest digits, no spaces, never "-0". The text is made in
 // a local of 64 bytes first, since only then is its length known; the longest has 51.
-ghost use Rattle.std.specs.Prelude.{◌≡◌, ◌+◌, ◌*◌, ◌≤◌, ◌<◌, [], ◌∷◌, nat_abs, length};
+ghost use Rattle.std.specs.Prelude.{◌≡◌, true, ◌+◌, ◌≤◌, ◌<◌, ◌++◌, nat_abs, length};
 ghost use Rattle.text.specs.Text.{decimal_text};
+ghost use Rattle.text.specs.Answers.{written_of};
+ghost use Rattle.bounds.specs.Bounds.{givable};
 ghost use Rattle.bbox_text.specs.Text.{decimals, frac_text, size_text, number_text, element_text, text_of, wrote_box, left_box};
-ghost use Rattle.bbox_text.specs.Growth.{Grows, Holds, place_text};
 
+use arrayvec::ArrayVec;
 use bounds::{Bounds, can_give};
-use consts::BAD_BOX;
-use text::{Written, write_text};
+use consts::Refusal;
+use text::write_text;
 
-// A text that is being made: the first n bytes of bytes.
-#[derive(Clone, Copy)]
-pub(crate) struct Text {
-    pub(crate) bytes: [u8; 64],
-    pub(crate) n: usize,
-}
+// A text that is being made.
+type Text = ArrayVec<u8, 64>;
 
-// A byte at the end.
-fn push(t: Text, b: u8) -> Text
-    requires { (t.n < 64) × (length t.bytes ≡ 64) }
-    ensures { Grows t (b ∷ []) result }
-{
-    let mut bytes = t.bytes;
-    let n = t.n;
-    bytes[n] = b;
-    Text { bytes, n: n + 1 }
-}
-
-// A decimal digit.
+// A decimal digit. (By hand, as in `text`: no contract of a `write!` says which bytes it gave.)
 fn glyph(d: u64) -> u8
     requires { d < 10 }
     ensures { result ≡ 48 + d }
 {
-    (48 + d) as u8
+    b'0' + d as u8
 }
 
 // One to three digits.
-fn put_whole(t: Text, w: u64) -> Text
-    requires { (t.n < 62) × (w < 1000) × (length t.bytes ≡ 64) }
-    ensures grows { Grows t (decimal_text w) result }
-    ensures n_bound { result.n ≤ t.n + 3 }
+#[tactic(auto, unfolding(text::specs::Text::decimal_text, text::specs::Text::hex_digit))]
+fn put_whole(t: &mut Text, w: u64)
+    requires { (w < 1000) × (length t.old.items + length (decimal_text w) ≤ 64) }
+    ensures { t.new.items ≡ t.old.items ++ decimal_text w }
 {
-    if w < 10 {
-        return push(t, glyph(w));
+    match w {
+        0..=9 => t.push(glyph(w)),
+        10..=99 => {
+            t.push(glyph(w / 10));
+            t.push(glyph(w % 10));
+        }
+        _ => {
+            t.push(glyph(w / 100));
+            t.push(glyph(w / 10 % 10));
+            t.push(glyph(w % 10));
+        }
     }
-    if w < 100 {
-        let a = push(t, glyph(w / 10));
-        return push(a, glyph(w % 10));
-    }
-    let a = push(t, glyph(w / 100));
-    let b = push(a, glyph(w / 10 % 10));
-    push(b, glyph(w % 10))
 }
 
-// The decimal of a unit, or nothing where only zeros are left.
-fn put_place(t: Text, f: u64, unit: u64) -> Text
-    requires { (t.n < 64) × (0 < unit) × (f < 10 * unit) × (length t.bytes ≡ 64) }
-    ensures grows { Grows t (place_text unit f) result }
-    ensures n_bound { result.n ≤ t.n + 1 }
+// At most seven decimals, without the zeros at their end: each place takes what the places before it leave.
+#[tactic(auto, using(crate::proofs::Grown::unit_above, crate::proofs::Grown::unit_fits, crate::proofs::Grown::digit_under))]
+fn put_decimals(t: &mut Text, f: u64)
+    requires { (f < 10000000) × (length t.old.items + length (decimals 7 f) ≤ 64) }
+    ensures { t.new.items ≡ t.old.items ++ decimals 7 f }
 {
-    if f == 0 {
-        return t;
+    let mut rest = f;
+    for k in (0..7).rev() {
+        if rest == 0 {
+            return;
+        }
+        let unit = 10u64.pow(k);
+        t.push(glyph(rest / unit));
+        rest %= unit;
     }
-    push(t, glyph(f / unit))
-}
-
-// Seven decimals, without the zeros at their end: each place takes what the places before it leave.
-fn put_decimals(t: Text, f: u64) -> Text
-    requires { (t.n < 58) × (f < 10000000) × (length t.bytes ≡ 64) }
-    ensures grows { Grows t (decimals 7 f) result }
-    ensures n_bound { result.n ≤ t.n + 7 }
-{
-    let g = f % 1000000;
-    let h = g % 100000;
-    let i = h % 10000;
-    let j = i % 1000;
-    let k = j % 100;
-    let l = k % 10;
-    let t1 = put_place(t, f, 1000000);
-    let t2 = put_place(t1, g, 100000);
-    let t3 = put_place(t2, h, 10000);
-    let t4 = put_place(t3, i, 1000);
-    let t5 = put_place(t4, j, 100);
-    let t6 = put_place(t5, k, 10);
-    put_place(t6, l, 1)
 }
 
 // A point and the decimals, or nothing for a whole number of degrees.
-fn put_fraction(t: Text, f: u64) -> Text
-    requires { (t.n < 57) × (f < 10000000) × (length t.bytes ≡ 64) }
-    ensures grows { Grows t (frac_text f) result }
-    ensures n_bound { result.n ≤ t.n + 8 }
+#[tactic(auto, unfolding(crate::specs::Text::frac_text))]
+fn put_fraction(t: &mut Text, f: u64)
+    requires { (f < 10000000) × (length t.old.items + length (frac_text f) ≤ 64) }
+    ensures { t.new.items ≡ t.old.items ++ frac_text f }
 {
-    if f == 0 {
-        return t;
+    if f > 0 {
+        t.push(b'.');
+        put_decimals(t, f);
     }
-    put_decimals(push(t, b'.'), f)
 }
 
 // A size of so many ten-millionths: whole degrees, then decimals.
-fn put_size(t: Text, size: u64) -> Text
-    requires { (t.n < 54) × (size < 10000000000) × (length t.bytes ≡ 64) }
-    ensures grows { Grows t (size_text size) result }
-    ensures n_bound { result.n ≤ t.n + 11 }
+#[tactic(auto, unfolding(crate::specs::Text::size_text))]
+fn put_size(t: &mut Text, size: u64)
+    requires { (size < 10000000000) × (length t.old.items + length (size_text size) ≤ 64) }
+    ensures { t.new.items ≡ t.old.items ++ size_text size }
 {
-    let a = put_whole(t, size / 10000000);
-    put_fraction(a, size % 10000000)
+    put_whole(t, size / 10000000);
+    put_fraction(t, size % 10000000);
 }
 
-// A number's size.
-fn size_of(z: i64) -> u64
-    requires { nat_abs z < 10000000000 }
-    ensures { result ≡ nat_abs z }
+// A number with the fewest digits, in 12 bytes at most. Zero has no minus.
+fn put_number(t: &mut Text, z: i64)
+    requires { (nat_abs z < 10000000000) × (length t.old.items ≤ 52) }
+    ensures text { t.new.items ≡ t.old.items ++ number_text z }
+    ensures bound { length t.new.items ≤ length t.old.items + 12 }
 {
-    if z < 0 {
-        return (0 - z) as u64;
-    }
-    z as u64
-}
-
-// A number with the fewest digits. Zero has no minus.
-fn put_number(t: Text, z: i64) -> Text
-    requires { (t.n < 53) × (nat_abs z < 10000000000) × (length t.bytes ≡ 64) }
-    ensures grows { Grows t (number_text z) result }
-    ensures n_bound { result.n ≤ t.n + 12 }
-{
-    let size = size_of(z);
     let minus = z < 0;
     if minus {
-        return put_size(push(t, b'-'), size);
+        t.push(b'-');
     }
-    put_size(t, size)
+    put_size(t, z.unsigned_abs());
 }
 
 // A number and the mark after it.
-fn put_element(t: Text, z: i64, mark: u8) -> Text
-    requires { (t.n < 51) × (nat_abs z < 10000000000) × (length t.bytes ≡ 64) }
-    ensures grows { Grows t (element_text z mark) result }
-    ensures n_bound { result.n ≤ t.n + 13 }
+#[tactic(auto, unfolding(crate::specs::Text::element_text))]
+fn put_element(t: &mut Text, z: i64, mark: u8)
+    requires { (nat_abs z < 10000000000) × (length t.old.items ≤ 51) }
+    ensures text { t.new.items ≡ t.old.items ++ element_text z mark }
+    ensures bound { length t.new.items ≤ length t.old.items + 13 }
 {
-    push(put_number(t, z), mark)
+    put_number(t, z);
+    t.push(mark);
 }
 
-// The text of a box.
+// The text of a box that reading can give.
+#[tactic(auto, using(crate::proofs::Room::box_sizes), unfolding(crate::specs::Text::text_of))]
 fn text_of(b: Bounds) -> Text
-    requires { (nat_abs b.west < 10000000000) × (nat_abs b.south < 10000000000) × (nat_abs b.east < 10000000000) × (nat_abs b.north < 10000000000) }
-    ensures { Holds result (text_of b) }
+    requires { givable b ≡ true }
+    ensures { result.items ≡ text_of b }
 {
-    let bytes = [0u8; 64];
-    let open = push(Text { bytes, n: 0 }, b'[');
-    let west = put_element(open, b.west, b',');
-    let south = put_element(west, b.south, b',');
-    let east = put_element(south, b.east, b',');
-    put_element(east, b.north, b']')
+    let mut t = ArrayVec::new();
+    t.push(b'[');
+    put_element(&mut t, b.west, b',');
+    put_element(&mut t, b.south, b',');
+    put_element(&mut t, b.east, b',');
+    put_element(&mut t, b.north, b']');
+    t
 }
 
 // Writes a box at the start of out: 9 for a box that reading cannot give, then 6 where out is too short.
@@ -162,18 +127,13 @@ fn text_of(b: Bounds) -> Text
 // Answers.enough; Room.longest.
 // Ruled out: of [0, 0, 0, 0]: `[-0,0,0,0]`; of west 0.5: `[0.50,..`; of west 0.0000001: `[0,..`; of
 // east -180: any text.
-pub fn write(b: Bounds, out: &mut [u8]) -> Written
-    ensures value { result ≡ wrote_box b (length out.old) }
+#[tactic(auto, unfolding(crate::specs::Text::wrote_box, crate::specs::Text::left_box))]
+pub fn write(b: Bounds, out: &mut [u8]) -> Result<usize, Refusal>
+    ensures value { written_of result ≡ wrote_box b (length out.old) }
     ensures out_after { out.new ≡ left_box b out.old }
 {
     if can_give(b) {
-        let t = text_of(b);
-        let n = t.n;
-        let bytes = t.bytes;
-        return write_text(&bytes[..n], out);
+        return write_text(text_of(b).as_slice(), out);
     }
-    Written {
-        refusal: BAD_BOX,
-        count: 0,
-    }
+    Err(Refusal::BadBox)
 }

@@ -14,26 +14,25 @@ const INFINITY: u64 = 0x7FF0_0000_0000_0000;
 // The weight of the sign.
 const SIGN: u64 = 0x8000_0000_0000_0000;
 
-// The double of a bit pattern. Zero over zero is the NaN.
+// The double of a bit pattern.
 // Laws: RoundTrip.written_read, RoundTrip.read-written.
 // Ruled out: of 3FF0000000000000: 2; of 7FF0000000000001: infinity, since it is a NaN's.
+#[tactic(auto, using(std::proofs::lemmas::Float::not_nan_f64_bits))]
 pub fn from_pattern(bits: u64) -> f64
     ensures { result ≡ of_pattern bits }
 {
     if INFINITY < bits % SIGN {
-        return 0.0 / 0.0;
+        return f64::NAN;
     }
     f64::from_bits(bits)
 }
 
-// The bit pattern of a double. Only the NaN differs from itself.
+// The bit pattern of a double.
 // Laws: RoundTrip.read-written, RoundTrip.written_read.
 // Ruled out: of 1: 3FF0000000000001; of the NaN: 7FFC000000000000.
+#[tactic(auto, unfolding(crate::specs::Pattern::to_pattern))]
 pub fn pattern(x: f64) -> u64
     ensures { result ≡ to_pattern x }
 {
-    if x != x {
-        return NAN;
-    }
-    f64::to_bits(x)
+    if x.is_nan() { NAN } else { x.to_bits() }
 }

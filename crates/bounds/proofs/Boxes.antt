@@ -1,23 +1,23 @@
 -- What the limits and the seam mean for a box: a number within a limit is of no larger size; a box that reading can give stays as it is when -180 is read,
 -- and reading -180 gives only such boxes. By the two tests of the seam. Assumes nothing.
-use mathlib.Core.Path.{◌≡◌, refl, sym, ap, ◌∙◌}
+use mathlib.Core.Path.{◌≡◌, refl, ap}
 use mathlib.Core.Bool.{Bool, true, false, ◌&&◌, ◌||◌, not, cond, false≢true}
 use Prim.Native.Nat.{ℕ, zero, suc, ◌≤◌, ◌<◌}
 use native.Mathlib.Omega.{arith}
 use borrow.Author.Tests.{leb-true}
+use Rattle.std.proofs.lemmas.Bool.{and_parts, not-true}
 use lib.IntN.{ℤ, pos, negsuc, neg_ℤ, nat_abs}
 use lib.Signed.{le_z}
 use Rattle.bounds.specs.declared.bounds.Bounds.{Bounds}
 use Rattle.bounds.specs.Bounds.{HALF, QUARTER, within, in_limits, is_westmost, is_eastmost, whole_circle, seam_read, placed, settled, givable}
-use Rattle.bounds.proofs.Tests.{and_left, and_right}
 
 -- ---- the limits
 pub within-size : (limit : ℕ) (z : ℤ) → within limit z ≡ true → nat_abs z ≤ limit
 unfolding within
-within-size limit (pos n) h = leb-true n limit (and_right (le_z (neg_ℤ (pos limit)) (pos n)) (le_z (pos n) (pos limit)) h)
+within-size limit (pos n) h = leb-true n limit (and_parts (le_z (neg_ℤ (pos limit)) (pos n)) (le_z (pos n) (pos limit)) h).1
 within-size zero (negsuc n) h = absurd (false≢true h)
 within-size (suc m) (negsuc n) h =
-    let k : n ≤ m = leb-true n m (and_left (le_z (negsuc m) (negsuc n)) true h) in
+    let k : n ≤ m = leb-true n m (and_parts (le_z (negsuc m) (negsuc n)) true h).0 in
     omega arith
 
 -- every number of a box within the limits, and the order of its latitudes
@@ -36,18 +36,19 @@ limits b h =
     let e : Bool = within HALF b.east in
     let n : Bool = within QUARTER b.north in
     let o : Bool = le_z b.south b.north in
-    let h3 : w && s && e && n ≡ true = and_left (w && s && e && n) o h in
-    let h2 : w && s && e ≡ true = and_left (w && s && e) n h3 in
-    let h1 : w && s ≡ true = and_left (w && s) e h2 in
-    record { west = and_left w s h1; south = and_right w s h1; east = and_right (w && s) e h2; north = and_right (w && s && e) n h3; order = and_right (w && s && e && n) o h }
+    let h4 = and_parts (w && s && e && n) o h in
+    let h3 = and_parts (w && s && e) n h4.0 in
+    let h2 = and_parts (w && s) e h3.0 in
+    let h1 = and_parts w s h2.0 in
+    record { west = h1.0; south = h1.1; east = h2.1; north = h3.1; order = h4.1 }
 
 pub given-limits : (b : Bounds) → givable b ≡ true → in_limits b ≡ true
 unfolding givable
-given-limits b h = and_left (in_limits b) (settled b) h
+given-limits b h = (and_parts (in_limits b) (settled b) h).0
 
 pub given-settled : (b : Bounds) → givable b ≡ true → settled b ≡ true
 unfolding givable
-given-settled b h = and_right (in_limits b) (settled b) h
+given-settled b h = (and_parts (in_limits b) (settled b) h).1
 
 -- the sizes that the writer can write
 pub sizes : (b : Bounds) → givable b ≡ true
@@ -61,10 +62,6 @@ sizes b h =
     )
 
 -- ---- the seam
-not-true : (t : Bool) → not t ≡ true → t ≡ false
-not-true true k = sym k
-not-true false k = refl
-
 -- a box that is settled stays as it is
 seam-stays : (z : ℤ) → is_westmost z ≡ false → seam_read z ≡ z
 unfolding seam_read
@@ -84,8 +81,8 @@ settled-stays b h = go (whole_circle b) h
         → cond t b (record { west = seam_read b.west; south = b.south; east = seam_read b.east; north = b.north }) ≡ b
     go true k = refl
     go false k =
-        ap (λ (z : ℤ). record { west = z; south = b.south; east = seam_read b.east; north = b.north }) (seam-stays b.west (not-true w (and_left (not w) (not e) k)))
-        ∙ ap (λ (z : ℤ). record { west = b.west; south = b.south; east = z; north = b.north }) (seam-stays b.east (not-true e (and_right (not w) (not e) k)))
+        let apart = and_parts (not w) (not e) k in
+        simp (seam-stays b.west (not-true w apart.0), seam-stays b.east (not-true e apart.1))
 
 -- what is read for a number is not -180, and is within the limit with it
 seam-free : (z : ℤ) → is_westmost (seam_read z) ≡ false
@@ -137,7 +134,7 @@ pub westmost : (z : ℤ) → within HALF z ≡ true → is_westmost z ≡ true �
 unfolding within is_westmost
 westmost (pos n) h k = absurd (false≢true k)
 westmost (negsuc n) h k =
-    let below : n ≤ 1799999999 = leb-true n 1799999999 (and_left (le_z (negsuc 1799999999) (negsuc n)) true h) in
+    let below : n ≤ 1799999999 = leb-true n 1799999999 (and_parts (le_z (negsuc 1799999999) (negsuc n)) true h).0 in
     let above : 1799999999 ≤ n = leb-true 1799999999 n k in
     let e : n ≡ 1799999999 = omega arith in
     ap negsuc e
@@ -145,7 +142,7 @@ westmost (negsuc n) h k =
 pub eastmost : (z : ℤ) → within HALF z ≡ true → is_eastmost z ≡ true → z ≡ pos HALF
 unfolding within is_eastmost
 eastmost (pos n) h k =
-    let below : n ≤ HALF = leb-true n HALF (and_right (le_z (neg_ℤ (pos HALF)) (pos n)) (le_z (pos n) (pos HALF)) h) in
+    let below : n ≤ HALF = leb-true n HALF (and_parts (le_z (neg_ℤ (pos HALF)) (pos n)) (le_z (pos n) (pos HALF)) h).1 in
     let above : HALF ≤ n = leb-true HALF n k in
     let e : n ≡ HALF = omega arith in
     ap pos e

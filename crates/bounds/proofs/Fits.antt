@@ -1,6 +1,6 @@
--- The numbers of a box are the machine's: a size under ten thousand million is itself, its negative too, and what is read for -180 fits. Assumes nothing.
+-- The numbers of a box are the machine's: a size under ten thousand million is itself, and so is its negative too. Assumes nothing.
 use mathlib.Core.Path.{◌≡◌, sym, ap, ◌∙◌}
-use mathlib.Core.Bool.{Bool, true, false, cond, false≢true}
+use mathlib.Core.Bool.{true, false, false≢true}
 use Prim.Native.Nat.{ℕ, zero, suc, ◌<◌}
 use native.Mathlib.Omega.{arith}
 use borrow.Author.Tests.{ltb-true}
@@ -10,7 +10,6 @@ use lib.IntN.{ℤ, pos, negsuc, neg_ℤ, nat_abs, ◌+ℤ◌, ◌-ℤ◌, +ℤ_i
 use mir.Syntax.{w64}
 use mir.Val.{SFits, to_z, of_z}
 use mir.ValLaws.{to_z_pos}
-use Rattle.bounds.specs.Bounds.{HALF, is_westmost, seam_read}
 
 pub small_is : (n : ℕ) → n < 10000000000 → to_z w64 n ≡ pos n
 small_is n h = to_z_pos w64 n (omega arith)
@@ -37,11 +36,3 @@ below-zero (negsuc n) t h = ap (λ (z : ℤ). to_z w64 (of_z w64 z)) (+ℤ_idl (
 pub not-below : (z : ℤ) → lt_z z (pos 0) ≡ false → T (non_neg z)
 not-below (pos n) t = tt
 not-below (negsuc n) t = absurd (false≢true (sym t))
-
-pub seam-fits : (z : ℤ) → SFits w64 z → SFits w64 (seam_read z)
-unfolding seam_read
-seam-fits z h = go (is_westmost z)
-  where
-    go : (t : Bool) → SFits w64 (cond t (pos HALF) z)
-    go true = record { sfits = omega arith }
-    go false = h

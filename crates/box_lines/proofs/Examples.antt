@@ -27,5 +27,7 @@ pub two-zones : common_boxes (box (neg_ℤ (pos 1000000000)) (pos 400000000) (po
     ∷ (box (pos 800000000) (pos 450000000) (neg_ℤ (pos 800000000)) (pos 700000000) ∷ []))
     ≡ box (neg_ℤ (pos 1000000000)) (pos 450000000) (neg_ℤ (pos 800000000)) (pos 600000000)
     ∷ (box (pos 800000000) (pos 450000000) (pos 1000000000) (pos 600000000) ∷ [])
-unfolding common_boxes boxes_of box_of whole_of in_radians wholes pieces_of rects_of as_read_all region band_from lngs across common steps step whole clip end_at cut insert sooner before some_holds as_read line.is_empty line.intersection circle.is_empty circle.is_full plain min max radians degrees from_degrees mul div of_int of_bits lt le eq
+unfolding common_boxes boxes_of box_of whole_of in_radians wholes pieces_of rects_of as_read_all region band_from lngs across common
+    steps step whole clip end_at cut insert sooner before some_holds as_read line.is_empty line.intersection circle.is_empty circle.is_full
+    plain min max radians degrees from_degrees mul div of_int of_bits lt le eq
 two-zones = refl

@@ -1,14 +1,13 @@
 pub mod Cuts
+pub mod Radians
 pub mod Held
 pub mod Lined
-pub mod Filled
 pub mod Taken
 pub mod Edges
 pub mod Back
 pub mod Givable
 pub mod Common
 pub mod Listing
-pub mod Gathers
 pub mod Again
 pub mod Laws
 pub mod Examples

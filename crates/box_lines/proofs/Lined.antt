@@ -1,27 +1,27 @@
--- How the lines of boxes stand in the output: one line from a place on, whatever stood there; and a turn that puts one line more behind those that stand.
--- By the writer's answer, for which 51 bytes are enough. Assumes nothing.
-use mathlib.Core.Path.{◌≡◌, refl, sym, ap, ◌∙◌, subst}
-use mathlib.Core.Bool.{Bool, true, false, cond}
+-- How the lines of boxes are made: what the writer writes of a box, for which 51 bytes are enough, and a turn that adds the line of one piece more. Assumes
+-- nothing.
+use mathlib.Core.Path.{◌≡◌, refl, sym, ap, ◌∙◌}
+use mathlib.Core.Bool.{Bool, true, false, cond, false≢true}
 use mathlib.Core.List.{List, [], ◌∷◌, ◌++◌, append_assoc, append-nil}
-use Prim.Native.Nat.{ℕ, suc, ◌+◌, ◌-◌, ◌*◌, ◌%◌, ◌≤◌, ◌<◌}
+use Prim.Native.Nat.{ℕ, ◌+◌, ◌*◌, ◌%◌, ◌≤◌, ◌<◌}
 use native.Mathlib.Omega.{arith}
 use borrow.Author.Tests.{le-leb}
-use borrow.Rule.Slice.PartMut.{mid_of, put_mid}
 use lib.Dec.{leb}
-use lib.ListN.{length, take, drop, set, get_or, length-append, length-drop, take-append-drop, drop_of_length-le}
-use lib.Seq.{drop-cons, drop-drop, drop-append-le, set-append_seam, length-take-le, take-append_seam}
-use Rattle.text.specs.declared.text.Written.{Written}
-use Rattle.text.specs.Answers.{wrote, left}
+use lib.ListN.{length, take, drop, length-append, drop_of_length-le}
+use lib.Seq.{take_at}
+use lib.IntN.{ℤ}
+use lib.Ieee.{Float}
+use Rattle.std.specs.Prelude.{Result, Ok, Err, OnOk, IsOk}
+use Rattle.std.specs.Result.{result_unwrap_or}
+use Rattle.consts.specs.declared.refusal.Refusal.{Refusal}
+use Rattle.s2.specs.declared.rect.Rect.{Rect}
+use Rattle.entries.specs.Inputs.{in_turn}
+use Rattle.lists.specs.Rects.{rects_of, rect_at}
+use Rattle.text.specs.Answers.{Written, written_of, wrote, left}
 use Rattle.bounds.specs.declared.bounds.Bounds.{Bounds}
 use Rattle.bounds.specs.Bounds.{givable}
 use Rattle.bbox_text.specs.Text.{text_of, wrote_box, left_box}
 use Rattle.bbox_text.proofs.Room.{longest}
-use lib.IntN.{ℤ}
-use lib.Ieee.{Float}
-use Rattle.s2.specs.declared.rect.Rect.{Rect}
-use Rattle.entries.specs.Inputs.{in_turn}
-use Rattle.lists.specs.Rects.{rects_of, rect_at}
-use Rattle.lists.proofs.RectLists.{four}
 use Rattle.box_lines.specs.Answers.{box_of, boxes_of, box_text, box_line, box_lines}
 
 -- ---- what the writer writes of a box
@@ -33,108 +33,82 @@ box-short b = go (givable b) refl
     go true e = longest b e
     go false e = omega arith
 
-box-counted : (b : Bounds) (room : ℕ) → 51 ≤ room → (wrote_box b room).count ≡ length (box_text b)
+box-counted : (b : Bounds) → (wrote_box b 51).count ≡ length (box_text b)
 unfolding wrote_box box_text wrote
-box-counted b room h = go (givable b) refl
+box-counted b = go (givable b) refl
   where
-    go : (t : Bool) → givable b ≡ t → (wrote_box b room).count ≡ length (box_text b)
+    go : (t : Bool) → givable b ≡ t → (wrote_box b 51).count ≡ length (box_text b)
     go true e =
-        let f : leb (length (text_of b)) room ≡ true = le-leb (length (text_of b)) room (omega (arith, longest b e)) in
+        let f : leb (length (text_of b)) 51 ≡ true = le-leb (length (text_of b)) 51 (longest b e) in
         simp (e, f)
     go false e = simp e
 
-box-left : (b : Bounds) (out : List ℕ) → 51 ≤ length out → left_box b out ≡ box_text b ++ drop (length (box_text b)) out
+box-left : (b : Bounds) (out : List ℕ) → length out ≡ 51 → left_box b out ≡ box_text b ++ drop (length (box_text b)) out
 unfolding left_box box_text left
 box-left b out h = go (givable b) refl
   where
     go : (t : Bool) → givable b ≡ t → left_box b out ≡ box_text b ++ drop (length (box_text b)) out
     go true e =
-        let f : leb (length (text_of b)) (length out) ≡ true = le-leb (length (text_of b)) (length out) (omega (arith, longest b e)) in
+        let f : leb (length (text_of b)) (length out) ≡ true = le-leb (length (text_of b)) (length out) (omega (arith, longest b e, h)) in
         simp (e, f)
     go false e = simp e
 
-pub length-line : (b : Bounds) → length (box_line b) ≡ length (box_text b) + 1
-unfolding box_line
-length-line b = length-append (box_text b) (10 ∷ [])
+count_is : (r : Result ℕ Refusal) → result_unwrap_or r 0 ≡ (written_of r).count
+count_is (Ok n) = refl
+count_is (Err w) = refl
 
--- ---- a line from the place a on
-module _ (b : Bounds) (xs : List ℕ) (a : ℕ) (h : a + 52 ≤ length xs) where
-  abbrev k : ℕ
-  k = length xs - a
+pub fitted : {T E P : Type 0} (r : Result T E) → OnOk r P → IsOk r → P
+fitted (Ok x) p e = p
+fitted (Err x) p e = absurd (false≢true e)
 
-  abbrev mid : List ℕ
-  mid = mid_of a k xs
+-- in 51 bytes
+module _ (b : Bounds) (out : List ℕ) (h : length out ≡ 51) (r : Result ℕ Refusal) (o : List ℕ) (e : written_of r ≡ wrote_box b (length out)) (f : o ≡ left_box b out) where
+  pub counted : result_unwrap_or r 0 ≡ length (box_text b)
+  counted = count_is r ∙ ap (λ (w : Written). w.count) e ∙ ap (λ (n : ℕ). (wrote_box b n).count) h ∙ box-counted b
 
-  abbrev n : ℕ
-  n = length (box_text b)
+  pub text : take (result_unwrap_or r 0) o ≡ box_text b
+  text = ap (take (result_unwrap_or r 0)) (f ∙ box-left b out h) ∙ take_at (box_text b) (drop (length (box_text b)) out) (result_unwrap_or r 0) (sym counted)
 
-  length-mid : length mid ≡ k
-  length-mid = length-take-le k (drop a xs) (omega (arith, length-drop a xs))
+-- ---- all lines: those that are made, and those of the pieces that are left
+pub record Made (ws : List ℤ) (pieces : List Float) (t : List ℕ) (left : List Float) : Type 0 where
+  pub is : box_lines (boxes_of ws (rects_of pieces)) ≡ t ++ box_lines (boxes_of ws (rects_of left))
+  pub few : length t + 13 * length left ≤ 26624
+  pub fours : length left % 4 ≡ 0
 
-  pub counted : (w : Written) → w ≡ wrote_box b (length mid) → w.count ≡ n
-  counted w e = ap (λ (v : Written). v.count) e ∙ box-counted b (length mid) (omega (arith, length-mid))
+pub none_made : (ws : List ℤ) (pieces : List Float) → length pieces % 4 ≡ 0 → length pieces ≤ 2048 → Made ws pieces [] pieces
+none_made ws pieces h k = record { is = refl; few = omega (arith, k); fours = h }
 
-  put_is : (last : List ℕ) → last ≡ left_box b mid → put_mid a k xs last ≡ take a xs ++ (box_text b ++ drop n (drop a xs))
-  put_is last e =
-      let f : last ≡ box_text b ++ drop n mid = e ∙ box-left b mid (omega (arith, length-mid)) in
-      ap (λ (t : List ℕ). take a xs ++ (t ++ drop k (drop a xs))) f
-      ∙ ap (λ (t : List ℕ). take a xs ++ t) (append_assoc (box_text b) (drop n mid) (drop k (drop a xs)))
-      ∙ ap (λ (t : List ℕ). take a xs ++ (box_text b ++ t))
-      (sym (drop-append-le n mid (drop k (drop a xs)) (omega (arith, length-mid, box-short b))) ∙ ap (drop n) (take-append-drop k (drop a xs)))
+four-first : (x l : List Float) → length x ≡ 4 → rects_of (x ++ l) ≡ rect_at x 0 ∷ rects_of l
+unfolding rects_of
+four-first [] l h = absurd (omega arith)
+four-first (a ∷ []) l h = absurd (omega arith)
+four-first (a ∷ (b ∷ [])) l h = absurd (omega arith)
+four-first (a ∷ (b ∷ (c ∷ []))) l h = absurd (omega arith)
+four-first (a ∷ (b ∷ (c ∷ (d ∷ [])))) l h = refl
+four-first (a ∷ (b ∷ (c ∷ (d ∷ (e ∷ x))))) l h = absurd (omega arith)
 
-  pub put-length : (last : List ℕ) → last ≡ left_box b mid → a + n < length (put_mid a k xs last)
-  put-length last e =
-      subst (λ (t : List ℕ). a + n < length t) (sym (put_is last e))
-      (omega (arith, length-append (take a xs) (box_text b ++ drop n (drop a xs)), length-append (box_text b) (drop n (drop a xs)), length-drop n (drop a xs), length-drop a xs, length-take-le a xs (omega arith), box-short b))
+module _ (ws : List ℤ) (pieces : List Float) (t : List ℕ) (left : List Float) (h : Made ws pieces t left) where
+  module _ (x left' : List Float) (e : left ≡ x ++ left') (k : length x ≡ 4) where
+    shorter : length left ≡ 4 + length left'
+    shorter = ap length e ∙ length-append x left' ∙ ap (λ (n : ℕ). n + length left') k
 
-  pub put-line : (last : List ℕ) (c : ℕ) → last ≡ left_box b mid → c ≡ n
-      → set (put_mid a k xs last) (a + c) 10 ≡ take a xs ++ (box_line b ++ drop (a + length (box_line b)) xs)
-  unfolding box_line
-  put-line last c e f =
-      let rest : List ℕ = drop (suc n) (drop a xs) in
-      let front : List ℕ = take a xs ++ box_text b in
-      let y : ℕ = get_or (drop a xs) n 0 in
-      let g : a + c ≡ length front = omega (arith, length-append (take a xs) (box_text b), length-take-le a xs (omega arith)) in
-      let j : a + suc n ≡ a + length (box_text b ++ (10 ∷ [])) = omega (arith, length-append (box_text b) (10 ∷ [])) in
-      ap (λ (t : List ℕ). set t (a + c) 10)
-      (put_is last e ∙ ap (λ (t : List ℕ). take a xs ++ (box_text b ++ t)) (drop-cons (drop a xs) n 0 (omega (arith, length-drop a xs, box-short b)))
-      ∙ sym (append_assoc (take a xs) (box_text b) (y ∷ rest)))
-      ∙ ap (λ (i : ℕ). set (front ++ (y ∷ rest)) i 10) g ∙ set-append_seam front y rest 10 ∙ append_assoc (take a xs) (box_text b) (10 ∷ rest)
-      ∙ ap (λ (t : List ℕ). take a xs ++ t) (sym (append_assoc (box_text b) (10 ∷ []) rest))
-      ∙ ap (λ (t : List ℕ). take a xs ++ ((box_text b ++ (10 ∷ [])) ++ t)) (drop-drop (suc n) a xs ∙ ap (λ (i : ℕ). drop i xs) j)
+    pub room : length t + 52 ≤ 26624
+    room = omega (arith, h.few, shorter)
 
--- ---- all lines: those that stand, and those that are still to come
-pub record Standing (ws : List ℤ) (pieces : List Float) (out : List ℕ) (n i : ℕ) : Type 0 where
-  pub is : box_lines (boxes_of ws (rects_of pieces)) ≡ take n out ++ box_lines (boxes_of ws (rects_of (drop i pieces)))
-  pub few : n ≤ 13 * i
-  pub fours : i % 4 ≡ 0
+    pub one_more : (b : Bounds) (u : List ℕ) → b ≡ box_of ws (rect_at x 0) → u ≡ t ++ box_line b → length u ≤ length t + 52 → Made ws pieces u left'
+    unfolding boxes_of box_lines in_turn
+    one_more b u f g m =
+        let rest : List ℕ = box_lines (boxes_of ws (rects_of left')) in
+        record {
+          is = h.is ∙ ap (λ (l : List Float). t ++ box_lines (boxes_of ws (rects_of l))) e
+              ∙ ap (λ (l : List Rect). t ++ box_lines (boxes_of ws l)) (four-first x left' k)
+              ∙ ap (λ (c : Bounds). t ++ (box_line c ++ rest)) (sym f) ∙ sym (append_assoc t (box_line b) rest) ∙ ap (λ (v : List ℕ). v ++ rest) (sym g);
+          few = omega (arith, h.few, shorter, m);
+          fours = omega (arith, h.fours, shorter);
+        }
 
-pub none-stand : (ws : List ℤ) (pieces : List Float) (out : List ℕ) → Standing ws pieces out 0 0
-none-stand ws pieces out = record { is = refl; few = omega arith; fours = refl }
-
-module _ (ws : List ℤ) (pieces : List Float) (out : List ℕ) (n i : ℕ) (h : Standing ws pieces out n i) where
-  line-more : (b : Bounds) (o : List ℕ) (m : ℕ) → n ≤ length out → m ≡ n + length (box_line b) → o ≡ take n out ++ (box_line b ++ drop (n + length (box_line b)) out)
-      → take m o ≡ take n out ++ box_line b
-  line-more b o m p e f =
-      let rest : List ℕ = drop (n + length (box_line b)) out in
-      let front : List ℕ = take n out ++ box_line b in
-      let g : m ≡ length front = omega (arith, length-append (take n out) (box_line b), length-take-le n out p) in
-      ap (take m) (f ∙ sym (append_assoc (take n out) (box_line b) rest)) ∙ ap (λ (j : ℕ). take j (front ++ rest)) g ∙ take-append_seam front rest
-
-  pub one_more : (b : Bounds) (o : List ℕ) (m : ℕ) → i + 3 < length pieces → n ≤ length out → b ≡ box_of ws (rect_at pieces i) → m ≡ n + length (box_line b) → m ≤ n + 52
-      → o ≡ take n out ++ (box_line b ++ drop (n + length (box_line b)) out) → Standing ws pieces o m (i + 4)
-  unfolding boxes_of box_lines in_turn
-  one_more b o m p q e f g j =
-      record {
-        is = h.is ∙ ap (λ (l : List Rect). take n out ++ box_lines (boxes_of ws l)) (four pieces i p)
-            ∙ ap (λ (c : Bounds). take n out ++ (box_line c ++ box_lines (boxes_of ws (rects_of (drop (i + 4) pieces))))) (sym e)
-            ∙ sym (append_assoc (take n out) (box_line b) (box_lines (boxes_of ws (rects_of (drop (i + 4) pieces)))))
-            ∙ ap (λ (t : List ℕ). t ++ box_lines (boxes_of ws (rects_of (drop (i + 4) pieces)))) (sym (line-more b o m q f j));
-        few = omega (arith, h.few);
-        fours = omega (arith, h.fours);
-      }
-
-  pub all-stand : length pieces ≤ i → take n out ≡ box_lines (boxes_of ws (rects_of pieces))
+  pub all-made : length left < 4 → t ≡ box_lines (boxes_of ws (rects_of pieces))
   unfolding rects_of boxes_of box_lines in_turn
-  all-stand p =
-      sym (h.is ∙ ap (λ (l : List Float). take n out ++ box_lines (boxes_of ws (rects_of l))) (drop_of_length-le pieces p) ∙ append-nil (take n out))
+  all-made p =
+      let none : length left ≡ 0 = omega (arith, p, h.fours) in
+      sym (h.is ∙ ap (λ (l : List Float). t ++ box_lines (boxes_of ws (rects_of l))) (drop_of_length-le left {i = 0} (omega (arith, none))) ∙ append-nil t)

@@ -3,16 +3,15 @@
 use mathlib.Core.Path.{◌≡◌, refl, ap, ◌∙◌, subst}
 use mathlib.Core.Bool.{true}
 use mathlib.Core.List.{List, [], ◌∷◌}
-use Prim.Native.Nat.{suc, ◌*◌, ◌%◌, ◌≤◌}
+use Prim.Native.Nat.{◌*◌, ◌%◌, ◌≤◌}
 use native.Mathlib.Omega.{arith}
 use borrow.Author.Tests.{le-leb, eq-eqb}
 use lib.ListN.{length}
-use lib.IntN.{ℤ}
 use lib.Ieee.{Float}
 use Rattle.order.proofs.Ranks.{and-of}
 use Rattle.consts.specs.Refusal.{number, accepted}
 use Rattle.s2.specs.declared.rect.Rect.{Rect}
-use Rattle.s2.specs.declared.reading.One.{One}
+use Rattle.s2.specs.Reading.{One}
 use Rattle.s2.specs.Places.{Valid}
 use Rattle.s2.specs.Reading.{as_read, read_one}
 use Rattle.entries.specs.Lists.{All, whole, whole_length}
@@ -23,6 +22,7 @@ use Rattle.entries.proofs.FirstLaws.{passed}
 use Rattle.bounds.specs.declared.bounds.Bounds.{Bounds}
 use Rattle.degrees.specs.Degrees.{rect_of, to_rect}
 use Rattle.degrees.proofs.Boxes.{accepted-is, is-valid, read_back}
+use Rattle.box_lines.proofs.Radians.{length_radians}
 use Rattle.box_lines.specs.Answers.{Given, rects, wholes, in_radians}
 
 -- ---- one box
@@ -63,18 +63,13 @@ none-refused [] g = refl
 none-refused (b ∷ l) g = passed of_rect (rect_of b) (rects l) (ap (λ (x : One). x.refusal) (reads b g.0)) ∙ none-refused l g.1
 
 -- ---- four numbers a box
-length-radians : (ws : List ℤ) → length (in_radians ws) ≡ length ws
-unfolding in_radians
-length-radians [] = refl
-length-radians (w ∷ ws) = ap suc (length-radians ws)
-
-length-wholes : (l : List Bounds) → length (wholes l) ≡ 4 * length l
+pub length-wholes : (l : List Bounds) → length (wholes l) ≡ 4 * length l
 unfolding wholes
 length-wholes [] = refl
 length-wholes (b ∷ l) = omega (arith, length-wholes l)
 
 pub length-numbers : (l : List Bounds) → length (in_radians (wholes l)) ≡ 4 * length l
-length-numbers l = length-radians (wholes l) ∙ length-wholes l
+length-numbers l = length_radians (wholes l) ∙ length-wholes l
 
 -- ---- what `common_region` asks for
 pub record Taken (l : List Bounds) : Type 0 where

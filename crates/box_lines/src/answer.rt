@@ -1,75 +1,69 @@
 // What the program `boxes` writes for a text: the common region of its boxes, one a line, or the refusal
 // of its first fault with its line, or the refusal of a text without a line.
-ghost use Rattle.std.specs.Prelude.{◌≡◌, ◌++◌, ◌+◌, ◌*◌, ◌%◌, ◌≤◌, length, take, drop};
+ghost use Rattle.std.specs.Prelude.{◌≡◌, [], ◌++◌, ◌+◌, ◌*◌, ◌%◌, ◌≤◌, length};
 ghost use Rattle.lists.specs.Rects.{rects_of};
-ghost use Rattle.text.specs.Answers.{wrote, left};
-ghost use Rattle.box_lines.specs.Answers.{in_radians, box_line, boxes_of, box_lines, answer_text};
-ghost use Rattle.box_lines.specs.Inside.{Listed, listed_text};
+ghost use Rattle.text.specs.Answers.{written_of, wrote, left};
+ghost use Rattle.box_lines.specs.Answers.{box_line, boxes_of, box_lines, answer_text};
+ghost use Rattle.box_lines.specs.Inside.{Listed, IsFound, listed_text};
 
-use crate::gather::{Gathered, gather};
-use crate::wholes::{box_of, fill};
+use crate::gather::{Unread, gather};
+use crate::wholes::Edges;
+use arrayvec::ArrayVec;
 use bbox_text::write;
 use bounds::Bounds;
-use consts::{BAD_LIST, BAD_TEXT};
+use consts::Refusal;
 use region::common_region;
-use text::{Written, write_refusal, write_refusal_at_line, write_text};
+use text::{write_refusal, write_refusal_at_line, write_text};
 
-// Puts a box's line at a place, and says where it ends: at most 51 bytes and the newline.
-fn put_line(b: Bounds, at: usize, out: &mut [u8]) -> usize
-    requires { at + 52 ≤ length out.old }
-    ensures value { result ≡ at + length (box_line b) }
-    ensures upper_bound { result ≤ at + 52 }
-    ensures out_after { out.new ≡ take at out.old ++ (box_line b ++ drop (at + length (box_line b)) out.old) }
+// A text that is being made: 512 lines of at most 51 bytes, each with its newline.
+type Text = ArrayVec<u8, 26624>;
+
+// Adds a box's line. A box that reading cannot give has no text, and an empty line.
+fn put_line(t: &mut Text, b: Bounds)
+    requires { length t.old.items + 52 ≤ 26624 }
+    ensures items { t.new.items ≡ t.old.items ++ box_line b }
+    ensures few { length t.new.items ≤ length t.old.items + 52 }
 {
-    let w = write(b, &mut out[at..]);
-    let end = at + w.count;
-    out[end] = b'\n';
-    end + 1
+    let mut line = [0u8; 51];
+    let n = write(b, &mut line).unwrap_or(0);
+    // It has room, as is required.
+    let _ = t.try_extend_from_slice(&line[..n]);
+    t.push(b'\n');
 }
 
-// Puts the lines of the pieces at the start of out, and says where they end. x has the radians of the
-// list, in which the edges of the pieces are found.
-fn put_lines(list: &[i64], x: &[f64], pieces: &[f64], out: &mut [u8]) -> usize
-    requires x_value { x.now ≡ in_radians list.now }
-    requires pieces_len { (length pieces.now % 4 ≡ 0) × (13 * length pieces.now ≤ length out.old) }
-    ensures out_after { take result out.new ≡ box_lines (boxes_of list.now (rects_of pieces.now)) }
-    ensures upper_bound { result ≤ length out.new }
+// Puts the lines of the pieces into a text that is empty. (It is lent: handed back it would be copied.)
+fn put_lines(t: &mut Text, edges: &Edges, pieces: &[f64])
+    requires empty { t.old.items ≡ [] }
+    requires pieces { (length pieces.now % 4 ≡ 0) × (length pieces.now ≤ 2048) }
+    ensures { t.new.items ≡ box_lines (boxes_of edges.now.wholes.items (rects_of pieces.now)) }
 {
-    let mut n = 0;
-    let mut i = 0;
-    while i < pieces.len() {
-        n = put_line(box_of(list, x, pieces, i), n, out);
-        i += 4;
+    for piece in pieces.chunks_exact(4) {
+        put_line(t, edges.box_of(piece));
     }
-    n
 }
 
-// The text of the pieces, to the start of out.
-fn write_lines(list: &[i64], x: &[f64], pieces: &[f64], out: &mut [u8]) -> Written
-    requires x_value { x.now ≡ in_radians list.now }
-    requires pieces_len { (length pieces.now % 4 ≡ 0) × (length pieces.now ≤ 2048) }
-    ensures value { result ≡ wrote (box_lines (boxes_of list.now (rects_of pieces.now))) (length out.old) }
-    ensures out_after { out.new ≡ left (box_lines (boxes_of list.now (rects_of pieces.now))) out.old }
+// Finds the common region of boxes that were read, and puts its pieces at the start of a list. How many they are:
+// no more than there are boxes, so there is room for them, and nothing is refused.
+fn find(edges: &Edges, pieces: &mut [f64]) -> usize
+    requires list { Listed edges.now.wholes.items }
+    requires room { length pieces.old ≡ 2048 }
+    ensures { IsFound edges.now.wholes.items result pieces.new }
 {
-    let mut t = [0u8; 26624];
-    let n = put_lines(list, x, pieces, &mut t);
-    write_text(&t[..n], out)
+    common_region(&edges.radians[4..], pieces).unwrap_or(0)
 }
 
-// The text of the common region of boxes that were read. The list has the whole numbers of the globe and
-// of at most 512 boxes; their common region has no more pieces than that, so there is room for it.
-fn listed(list: &[i64], out: &mut [u8]) -> Written
-    requires { Listed list.now }
-    ensures value { result ≡ wrote (listed_text list.now) (length out.old) }
-    ensures out_after { out.new ≡ left (listed_text list.now) out.old }
+// The text of the common region of boxes that were read, to the start of out.
+#[tactic(auto, using(crate::proofs::Listing::listed_is), unfolding(crate::specs::Inside::listed_text))]
+fn listed(edges: &Edges, out: &mut [u8]) -> Result<usize, Refusal>
+    requires { Listed edges.now.wholes.items }
+    ensures value { written_of result ≡ wrote (listed_text edges.now.wholes.items) (length out.old) }
+    ensures out_after { out.new ≡ left (listed_text edges.now.wholes.items) out.old }
 {
-    let n = list.len();
-    let mut x = [0.0; 2052];
-    fill(list, &mut x);
     let mut pieces = [0.0; 2048];
-    let p = common_region(&x[4..n], &mut pieces);
-    let m = 4 * p.count;
-    write_lines(list, &x[..n], &pieces[..m], out)
+    let n = find(edges, &mut pieces);
+    let mut t = ArrayVec::new();
+    put_lines(&mut t, edges, &pieces[..4 * n]);
+    write_text(t.as_slice(), out)
 }
 
 // The text that goes out for the lines of s, to the start of out. No line at all is refused: the command
@@ -80,19 +74,16 @@ fn listed(list: &[i64], out: &mut [u8]) -> Written
 // Ruled out: of no bytes: `[-180,-90,180,90]`, or nothing, or `refused 8 at line 1` (it is
 // `refused 8`); of two lines of which the second is bad: `refused 8 at line 1`, or `refused 8 at 1`
 // (it is `refused 8 at line 2`); of an edge 0.1: 0.0999999.
-pub fn boxes_text(s: &[u8], out: &mut [u8]) -> Written
-    ensures value { result ≡ wrote (answer_text s.now) (length out.old) }
+#[tactic(auto, using(crate::proofs::Listing::answered), unfolding(crate::specs::Answers::answer_text, crate::specs::Answers::answer_of, text::specs::Answers::wrote_refusal, text::specs::Answers::left_refusal, text::specs::Answers::wrote_refusal_at_line, text::specs::Answers::left_refusal_at_line))]
+pub fn boxes_text(s: &[u8], out: &mut [u8]) -> Result<usize, Refusal>
+    ensures value { written_of result ≡ wrote (answer_text s.now) (length out.old) }
     ensures out_after { out.new ≡ left (answer_text s.now) out.old }
 {
-    let mut list = [0i64; 2052];
-    let g = gather(s, &mut list);
-    match g {
-        Gathered::NoLine => write_refusal(BAD_TEXT, out),
-        Gathered::Boxes(k) => {
-            let n = 4 * k + 4;
-            listed(&list[..n], out)
-        }
-        Gathered::Fault(refusal, line) => write_refusal_at_line(refusal, line, out),
-        Gathered::TooMany => write_refusal(BAD_LIST, out),
+    let mut edges = Edges::new();
+    match gather(s, &mut edges) {
+        Ok(()) => listed(&edges, out),
+        Err(Unread::NoLine) => write_refusal(Refusal::BadText.into(), out),
+        Err(Unread::Line { refusal, line }) => write_refusal_at_line(refusal.into(), line, out),
+        Err(Unread::TooMany) => write_refusal(Refusal::BadList.into(), out),
     }
 }

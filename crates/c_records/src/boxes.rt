@@ -4,7 +4,6 @@
 ghost use Rattle.std.specs.Prelude.{◌≡◌};
 ghost use Rattle.c_records.specs.Boxes.{box_of, Stored};
 
-use consts::ACCEPTED;
 use r1::interval::Interval as Line;
 use s1::interval::Interval as Circle;
 use s2::rect::{Answer, Rect};
@@ -34,7 +33,7 @@ pub fn box_of(b: &[f64; 4]) -> Rect
 pub fn keep(b: &mut [f64; 4], a: Answer) -> CRefusal
     ensures { Stored b.old a result b.new }
 {
-    if a.refusal == ACCEPTED {
+    if a.refusal == 0 {
         let r = a.value;
         *b = [r.lat.lo, r.lat.hi, r.lng.lo, r.lng.hi];
     }

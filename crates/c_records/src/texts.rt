@@ -25,10 +25,16 @@ pub fn text_of(b: Bounds) -> CText
     ensures { result ≡ box_text b }
 {
     let mut text = [0u8; ROOM];
-    let w = bbox_text::write(b, &mut text);
-    CText {
-        refusal: w.refusal,
-        length: w.count,
-        text,
+    match bbox_text::write(b, &mut text) {
+        Ok(length) => CText {
+            refusal: 0,
+            length,
+            text,
+        },
+        Err(why) => CText {
+            refusal: why.into(),
+            length: 0,
+            text,
+        },
     }
 }

@@ -8,7 +8,7 @@ use borrow.Author.Tests.{ne_eqb}
 use lib.ListN.{length}
 use lib.Ieee.{Float}
 use Rattle.consts.specs.Refusal.{number, accepted, no_room, bad_box}
-use Rattle.text.specs.declared.text.Written.{Written}
+use Rattle.text.specs.Answers.{Written}
 use Rattle.bounds.specs.declared.bounds.Bounds.{Bounds}
 use Rattle.bounds.specs.Bounds.{givable}
 use Rattle.bbox_text.specs.Text.{text_of, wrote_box, left_box}

@@ -1,6 +1,6 @@
 -- The record that C alone has for a distance that may be without bound, as the port's answer gives it. Definitions only.
 use Rattle.std.specs.Prelude.{Bool, true, false}
-use Rattle.r1.specs.declared.interval.Hausdorff.{Hausdorff}
+use Rattle.r1.specs.Answers.{Hausdorff}
 use Rattle.r1.specs.declared.interval.Distance.{Distance}
 use Rattle.r1.specs.declared.interval.Distance.TheVariants.{Of, Unbounded}
 use Rattle.r1.specs.Line.{distance_of}

@@ -17,7 +17,7 @@ use s1::interval::{Answer, Interval};
 pub extern "C" fn sjurnabel_circle_new(lo: f64, hi: f64) -> Answer
     ensures { result ≡ «new» lo hi }
 {
-    Interval::new(lo, hi)
+    Answer::from(Interval::new(lo, hi))
 }
 
 // The ends of a line interval as they are: refused where that is not valid.
@@ -25,7 +25,7 @@ pub extern "C" fn sjurnabel_circle_new(lo: f64, hi: f64) -> Answer
 pub extern "C" fn sjurnabel_circle_from_line(l: Line) -> Answer
     ensures { result ≡ from_line l }
 {
-    Interval::from_line(l)
+    Answer::from(Interval::from_line(l))
 }
 
 // The shorter way between two points, but for rounding.
@@ -33,7 +33,7 @@ pub extern "C" fn sjurnabel_circle_from_line(l: Line) -> Answer
 pub extern "C" fn sjurnabel_circle_from_point_pair(p: f64, q: f64) -> Answer
     ensures { result ≡ from_point_pair p q }
 {
-    Interval::from_point_pair(p, q)
+    Answer::from(Interval::from_point_pair(p, q))
 }
 
 // ---- what one is
@@ -43,7 +43,7 @@ pub extern "C" fn sjurnabel_circle_from_point_pair(p: f64, q: f64) -> Answer
 pub extern "C" fn sjurnabel_circle_is_valid(a: Interval) -> YesNo
     ensures { result ≡ is_valid a }
 {
-    a.is_valid()
+    YesNo::from(a.is_valid())
 }
 
 // Whether a is the whole circle.
@@ -51,7 +51,7 @@ pub extern "C" fn sjurnabel_circle_is_valid(a: Interval) -> YesNo
 pub extern "C" fn sjurnabel_circle_is_full(a: Interval) -> YesNo
     ensures { result ≡ is_full a }
 {
-    a.is_full()
+    YesNo::from(a.is_full())
 }
 
 // Whether a holds nothing.
@@ -59,7 +59,7 @@ pub extern "C" fn sjurnabel_circle_is_full(a: Interval) -> YesNo
 pub extern "C" fn sjurnabel_circle_is_empty(a: Interval) -> YesNo
     ensures { result ≡ is_empty a }
 {
-    a.is_empty()
+    YesNo::from(a.is_empty())
 }
 
 // Whether a crosses the seam, lo > hi; the empty one says yes too.
@@ -67,7 +67,7 @@ pub extern "C" fn sjurnabel_circle_is_empty(a: Interval) -> YesNo
 pub extern "C" fn sjurnabel_circle_is_inverted(a: Interval) -> YesNo
     ensures { result ≡ is_inverted a }
 {
-    a.is_inverted()
+    YesNo::from(a.is_inverted())
 }
 
 // The middle of a.
@@ -75,7 +75,7 @@ pub extern "C" fn sjurnabel_circle_is_inverted(a: Interval) -> YesNo
 pub extern "C" fn sjurnabel_circle_center(a: Interval) -> Number
     ensures { result ≡ center a }
 {
-    a.center()
+    Number::from(a.center())
 }
 
 // How long a is; -1 for the empty one.
@@ -83,7 +83,7 @@ pub extern "C" fn sjurnabel_circle_center(a: Interval) -> Number
 pub extern "C" fn sjurnabel_circle_len(a: Interval) -> Number
     ensures { result ≡ len a }
 {
-    a.len()
+    Number::from(a.len())
 }
 
 // The line interval with the ends of a: empty where a crosses the seam.
@@ -91,7 +91,7 @@ pub extern "C" fn sjurnabel_circle_len(a: Interval) -> Number
 pub extern "C" fn sjurnabel_circle_to_line(a: Interval) -> LineAnswer
     ensures { result ≡ to_line a }
 {
-    a.to_line()
+    LineAnswer::from(a.to_line())
 }
 
 // ---- tests of two, or of one and a point
@@ -101,7 +101,7 @@ pub extern "C" fn sjurnabel_circle_to_line(a: Interval) -> LineAnswer
 pub extern "C" fn sjurnabel_circle_fast_contains(a: Interval, p: f64) -> YesNo
     ensures { result ≡ fast_contains a p }
 {
-    a.fast_contains(p)
+    YesNo::from(a.fast_contains(p))
 }
 
 // Whether a holds the point p.
@@ -109,7 +109,7 @@ pub extern "C" fn sjurnabel_circle_fast_contains(a: Interval, p: f64) -> YesNo
 pub extern "C" fn sjurnabel_circle_contains(a: Interval, p: f64) -> YesNo
     ensures { result ≡ contains a p }
 {
-    a.contains(p)
+    YesNo::from(a.contains(p))
 }
 
 // Whether a holds every place of b.
@@ -117,7 +117,7 @@ pub extern "C" fn sjurnabel_circle_contains(a: Interval, p: f64) -> YesNo
 pub extern "C" fn sjurnabel_circle_contains_interval(a: Interval, b: Interval) -> YesNo
     ensures { result ≡ contains_interval a b }
 {
-    a.contains_interval(b)
+    YesNo::from(a.contains_interval(b))
 }
 
 // Whether the inside of a holds the point p.
@@ -125,7 +125,7 @@ pub extern "C" fn sjurnabel_circle_contains_interval(a: Interval, b: Interval) -
 pub extern "C" fn sjurnabel_circle_interior_contains(a: Interval, p: f64) -> YesNo
     ensures { result ≡ interior_contains a p }
 {
-    a.interior_contains(p)
+    YesNo::from(a.interior_contains(p))
 }
 
 // Whether the inside of a holds every place of b.
@@ -133,7 +133,7 @@ pub extern "C" fn sjurnabel_circle_interior_contains(a: Interval, p: f64) -> Yes
 pub extern "C" fn sjurnabel_circle_interior_contains_interval(a: Interval, b: Interval) -> YesNo
     ensures { result ≡ interior_contains_interval a b }
 {
-    a.interior_contains_interval(b)
+    YesNo::from(a.interior_contains_interval(b))
 }
 
 // Whether both share a place.
@@ -141,7 +141,7 @@ pub extern "C" fn sjurnabel_circle_interior_contains_interval(a: Interval, b: In
 pub extern "C" fn sjurnabel_circle_intersects(a: Interval, b: Interval) -> YesNo
     ensures { result ≡ intersects a b }
 {
-    a.intersects(b)
+    YesNo::from(a.intersects(b))
 }
 
 // Whether the inside of a shares a place with b.
@@ -149,7 +149,7 @@ pub extern "C" fn sjurnabel_circle_intersects(a: Interval, b: Interval) -> YesNo
 pub extern "C" fn sjurnabel_circle_interior_intersects(a: Interval, b: Interval) -> YesNo
     ensures { result ≡ interior_intersects a b }
 {
-    a.interior_intersects(b)
+    YesNo::from(a.interior_intersects(b))
 }
 
 // Whether both have the same ends.
@@ -157,7 +157,7 @@ pub extern "C" fn sjurnabel_circle_interior_intersects(a: Interval, b: Interval)
 pub extern "C" fn sjurnabel_circle_eq(a: Interval, b: Interval) -> YesNo
     ensures { result ≡ eq a b }
 {
-    a.eq(b)
+    YesNo::from(a.eq(b))
 }
 
 // Whether both are the same but for noise, 1e-14 an end.
@@ -165,7 +165,7 @@ pub extern "C" fn sjurnabel_circle_eq(a: Interval, b: Interval) -> YesNo
 pub extern "C" fn sjurnabel_circle_approx_eq(a: Interval, b: Interval) -> YesNo
     ensures { result ≡ approx_eq a b }
 {
-    a.approx_eq(b)
+    YesNo::from(a.approx_eq(b))
 }
 
 // The same with the error given.
@@ -173,7 +173,7 @@ pub extern "C" fn sjurnabel_circle_approx_eq(a: Interval, b: Interval) -> YesNo
 pub extern "C" fn sjurnabel_circle_approx_eq_by(a: Interval, b: Interval, max_error: f64) -> YesNo
     ensures { result ≡ approx_eq_by a b max_error }
 {
-    a.approx_eq_by(b, max_error)
+    YesNo::from(a.approx_eq_by(b, max_error))
 }
 
 // ---- a new one from old ones
@@ -183,7 +183,7 @@ pub extern "C" fn sjurnabel_circle_approx_eq_by(a: Interval, b: Interval, max_er
 pub extern "C" fn sjurnabel_circle_invert(a: Interval) -> Answer
     ensures { result ≡ invert a }
 {
-    a.invert()
+    Answer::from(a.invert())
 }
 
 // The rest of the circle, with the ends of a.
@@ -191,7 +191,7 @@ pub extern "C" fn sjurnabel_circle_invert(a: Interval) -> Answer
 pub extern "C" fn sjurnabel_circle_complement(a: Interval) -> Answer
     ensures { result ≡ complement a }
 {
-    a.complement()
+    Answer::from(a.complement())
 }
 
 // An interval that holds both.
@@ -199,7 +199,7 @@ pub extern "C" fn sjurnabel_circle_complement(a: Interval) -> Answer
 pub extern "C" fn sjurnabel_circle_union(a: Interval, b: Interval) -> Answer
     ensures { result ≡ union a b }
 {
-    a.union(b)
+    Answer::from(a.union(b))
 }
 
 // An interval that holds what both share, and it may hold more.
@@ -207,7 +207,7 @@ pub extern "C" fn sjurnabel_circle_union(a: Interval, b: Interval) -> Answer
 pub extern "C" fn sjurnabel_circle_intersection(a: Interval, b: Interval) -> Answer
     ensures { result ≡ intersection a b }
 {
-    a.intersection(b)
+    Answer::from(a.intersection(b))
 }
 
 // The interval with the margin added on each side, or taken off where it is negative.
@@ -215,7 +215,7 @@ pub extern "C" fn sjurnabel_circle_intersection(a: Interval, b: Interval) -> Ans
 pub extern "C" fn sjurnabel_circle_expanded(a: Interval, margin: f64) -> Answer
     ensures { result ≡ expanded a margin }
 {
-    a.expanded(margin)
+    Answer::from(a.expanded(margin))
 }
 
 // The interval grown by a point, to the side that is nearer by the rounded distance; a bad point hands
@@ -224,7 +224,7 @@ pub extern "C" fn sjurnabel_circle_expanded(a: Interval, margin: f64) -> Answer
 pub extern "C" fn sjurnabel_circle_add(a: Interval, p: f64) -> Answer
     ensures { result ≡ add a p }
 {
-    a.add(p)
+    Answer::grown(a, a.add(p))
 }
 
 // ---- distances
@@ -234,7 +234,7 @@ pub extern "C" fn sjurnabel_circle_add(a: Interval, p: f64) -> Answer
 pub extern "C" fn sjurnabel_circle_positive_distance(p: f64, q: f64) -> Number
     ensures { result ≡ positive_distance p q }
 {
-    Interval::positive_distance(p, q)
+    Number::from(Interval::positive_distance(p, q))
 }
 
 // The middle of the rest of the circle.
@@ -242,7 +242,7 @@ pub extern "C" fn sjurnabel_circle_positive_distance(p: f64, q: f64) -> Number
 pub extern "C" fn sjurnabel_circle_complement_center(a: Interval) -> Number
     ensures { result ≡ complement_center a }
 {
-    a.complement_center()
+    Number::from(a.complement_center())
 }
 
 // How far a place of a can lie from b, at most.
@@ -250,7 +250,7 @@ pub extern "C" fn sjurnabel_circle_complement_center(a: Interval) -> Number
 pub extern "C" fn sjurnabel_circle_directed_hausdorff_distance(a: Interval, b: Interval) -> Number
     ensures { result ≡ directed_hausdorff_distance a b }
 {
-    a.directed_hausdorff_distance(b)
+    Number::from(a.directed_hausdorff_distance(b))
 }
 
 // x minus the whole multiple of 2 PI nearest to it.
@@ -258,5 +258,5 @@ pub extern "C" fn sjurnabel_circle_directed_hausdorff_distance(a: Interval, b: I
 pub extern "C" fn sjurnabel_remainder(x: f64) -> Number
     ensures { result ≡ remainder x }
 {
-    consts::remainder(x)
+    Number::from(consts::remainder(x))
 }

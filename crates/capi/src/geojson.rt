@@ -15,7 +15,7 @@ use s2::rect::Answer;
 pub extern "C" fn sjurnabel_bbox_read(text: &[u8]) -> BoundsAnswer
     ensures { result ≡ read_of text.now }
 {
-    bbox::read(text)
+    BoundsAnswer::from(bbox::read(text))
 }
 
 // The bbox array of a box.
@@ -31,5 +31,5 @@ pub extern "C" fn sjurnabel_bbox_write(b: Bounds) -> CText
 pub extern "C" fn sjurnabel_bbox_rect(b: Bounds) -> Answer
     ensures { result ≡ to_rect b }
 {
-    degrees::to_rect(b)
+    Answer::from(degrees::to_rect(b))
 }

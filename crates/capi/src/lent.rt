@@ -20,7 +20,7 @@ use s2::rect::{Answer, Rect};
 pub extern "C" fn sjurnabel_common_region(list: &[f64], out: &mut [f64]) -> Pieces
     ensures { Promised list.now out.old result out.new }
 {
-    common_region(list, out)
+    Pieces::from(common_region(list, out))
 }
 
 // The rectangle grown by all the points of the list.
@@ -28,7 +28,7 @@ pub extern "C" fn sjurnabel_common_region(list: &[f64], out: &mut [f64]) -> Piec
 pub extern "C" fn sjurnabel_grow(a: Rect, points: &[f64]) -> Answer
     ensures { result ≡ grow a points.now }
 {
-    grow(a, points)
+    Answer::grown(a, grow(a, points))
 }
 
 // The running box that starts as a, after a call with each point of the list.
@@ -36,7 +36,7 @@ pub extern "C" fn sjurnabel_grow(a: Rect, points: &[f64]) -> Answer
 pub extern "C" fn sjurnabel_running(a: Rect, points: &[f64]) -> RunningAnswer
     ensures { result ≡ ran a points.now }
 {
-    running(a, points)
+    RunningAnswer::of(a, running(a, points))
 }
 
 // Enlarges the running box by a point.
@@ -44,8 +44,8 @@ pub extern "C" fn sjurnabel_running(a: Rect, points: &[f64]) -> RunningAnswer
 pub extern "C" fn sjurnabel_scan_point(b: &mut [f64; 4], p: LatLng) -> CRefusal
     ensures { Stored b.old (add (box_of b.old) p) result b.new }
 {
-    let a = box_of(b).add(p);
-    keep(b, a)
+    let r = box_of(b);
+    keep(b, Answer::grown(r, r.add(p)))
 }
 
 // Enlarges the running box by a list of points: one bad point leaves the box.
@@ -53,6 +53,6 @@ pub extern "C" fn sjurnabel_scan_point(b: &mut [f64; 4], p: LatLng) -> CRefusal
 pub extern "C" fn sjurnabel_scan_list(b: &mut [f64; 4], points: &[f64]) -> CRefusal
     ensures { Stored b.old (grow (box_of b.old) points.now) result b.new }
 {
-    let a = grow(box_of(b), points);
-    keep(b, a)
+    let r = box_of(b);
+    keep(b, Answer::grown(r, grow(r, points)))
 }

@@ -2,10 +2,10 @@
 ghost use Rattle.std.specs.Prelude.{◌≡◌};
 ghost use Rattle.r1.specs.Answers.{«new», from_point, from_point_pair, is_empty, center, len, contains, contains_interval, interior_contains};
 ghost use Rattle.r1.specs.Answers.{interior_contains_interval, intersects, interior_intersects, eq, approx_eq, approx_eq_by, union, intersection};
-ghost use Rattle.r1.specs.Answers.{expanded, add, clamp_point, directed_hausdorff_distance};
+ghost use Rattle.r1.specs.Answers.{expanded, add, clamp_point, directed_hausdorff_distance, distance_answer_of};
 ghost use Rattle.capi.specs.Records.{distance_back};
 
-use consts::{Number, YesNo};
+use consts::{Number, Refusal, YesNo};
 use r1::interval::{Answer, Distance, Interval};
 
 // ---- making one
@@ -15,7 +15,7 @@ use r1::interval::{Answer, Distance, Interval};
 pub extern "C" fn sjurnabel_line_new(lo: f64, hi: f64) -> Answer
     ensures { result ≡ «new» lo hi }
 {
-    Interval::new(lo, hi)
+    Answer::from(Interval::new(lo, hi))
 }
 
 // The interval of one point.
@@ -23,7 +23,7 @@ pub extern "C" fn sjurnabel_line_new(lo: f64, hi: f64) -> Answer
 pub extern "C" fn sjurnabel_line_from_point(p: f64) -> Answer
     ensures { result ≡ from_point p }
 {
-    Interval::from_point(p)
+    Answer::from(Interval::from_point(p))
 }
 
 // The interval between two points, in either order.
@@ -31,7 +31,7 @@ pub extern "C" fn sjurnabel_line_from_point(p: f64) -> Answer
 pub extern "C" fn sjurnabel_line_from_point_pair(p: f64, q: f64) -> Answer
     ensures { result ≡ from_point_pair p q }
 {
-    Interval::from_point_pair(p, q)
+    Answer::from(Interval::from_point_pair(p, q))
 }
 
 // ---- what one is
@@ -41,7 +41,7 @@ pub extern "C" fn sjurnabel_line_from_point_pair(p: f64, q: f64) -> Answer
 pub extern "C" fn sjurnabel_line_is_empty(a: Interval) -> YesNo
     ensures { result ≡ is_empty a }
 {
-    a.is_empty()
+    YesNo::from(a.is_empty())
 }
 
 // The middle of a.
@@ -49,7 +49,7 @@ pub extern "C" fn sjurnabel_line_is_empty(a: Interval) -> YesNo
 pub extern "C" fn sjurnabel_line_center(a: Interval) -> Number
     ensures { result ≡ center a }
 {
-    a.center()
+    Number::from(a.center())
 }
 
 // How long a is; negative where a is empty.
@@ -57,7 +57,7 @@ pub extern "C" fn sjurnabel_line_center(a: Interval) -> Number
 pub extern "C" fn sjurnabel_line_len(a: Interval) -> Number
     ensures { result ≡ len a }
 {
-    a.len()
+    Number::from(a.len())
 }
 
 // ---- tests of two, or of one and a point
@@ -67,7 +67,7 @@ pub extern "C" fn sjurnabel_line_len(a: Interval) -> Number
 pub extern "C" fn sjurnabel_line_contains(a: Interval, p: f64) -> YesNo
     ensures { result ≡ contains a p }
 {
-    a.contains(p)
+    YesNo::from(a.contains(p))
 }
 
 // Whether a holds every place of b.
@@ -75,7 +75,7 @@ pub extern "C" fn sjurnabel_line_contains(a: Interval, p: f64) -> YesNo
 pub extern "C" fn sjurnabel_line_contains_interval(a: Interval, b: Interval) -> YesNo
     ensures { result ≡ contains_interval a b }
 {
-    a.contains_interval(b)
+    YesNo::from(a.contains_interval(b))
 }
 
 // Whether the inside of a holds the point p.
@@ -83,7 +83,7 @@ pub extern "C" fn sjurnabel_line_contains_interval(a: Interval, b: Interval) -> 
 pub extern "C" fn sjurnabel_line_interior_contains(a: Interval, p: f64) -> YesNo
     ensures { result ≡ interior_contains a p }
 {
-    a.interior_contains(p)
+    YesNo::from(a.interior_contains(p))
 }
 
 // Whether the inside of a holds every place of b.
@@ -91,7 +91,7 @@ pub extern "C" fn sjurnabel_line_interior_contains(a: Interval, p: f64) -> YesNo
 pub extern "C" fn sjurnabel_line_interior_contains_interval(a: Interval, b: Interval) -> YesNo
     ensures { result ≡ interior_contains_interval a b }
 {
-    a.interior_contains_interval(b)
+    YesNo::from(a.interior_contains_interval(b))
 }
 
 // Whether both share a place.
@@ -99,7 +99,7 @@ pub extern "C" fn sjurnabel_line_interior_contains_interval(a: Interval, b: Inte
 pub extern "C" fn sjurnabel_line_intersects(a: Interval, b: Interval) -> YesNo
     ensures { result ≡ intersects a b }
 {
-    a.intersects(b)
+    YesNo::from(a.intersects(b))
 }
 
 // Whether the inside of a shares a place with b.
@@ -107,7 +107,7 @@ pub extern "C" fn sjurnabel_line_intersects(a: Interval, b: Interval) -> YesNo
 pub extern "C" fn sjurnabel_line_interior_intersects(a: Interval, b: Interval) -> YesNo
     ensures { result ≡ interior_intersects a b }
 {
-    a.interior_intersects(b)
+    YesNo::from(a.interior_intersects(b))
 }
 
 // Whether both hold the same places.
@@ -115,7 +115,7 @@ pub extern "C" fn sjurnabel_line_interior_intersects(a: Interval, b: Interval) -
 pub extern "C" fn sjurnabel_line_eq(a: Interval, b: Interval) -> YesNo
     ensures { result ≡ eq a b }
 {
-    a.eq(b)
+    YesNo::from(a.eq(b))
 }
 
 // Whether both are the same but for noise, 1e-14 an end.
@@ -123,7 +123,7 @@ pub extern "C" fn sjurnabel_line_eq(a: Interval, b: Interval) -> YesNo
 pub extern "C" fn sjurnabel_line_approx_eq(a: Interval, b: Interval) -> YesNo
     ensures { result ≡ approx_eq a b }
 {
-    a.approx_eq(b)
+    YesNo::from(a.approx_eq(b))
 }
 
 // The same with the error given.
@@ -131,7 +131,7 @@ pub extern "C" fn sjurnabel_line_approx_eq(a: Interval, b: Interval) -> YesNo
 pub extern "C" fn sjurnabel_line_approx_eq_by(a: Interval, b: Interval, max_error: f64) -> YesNo
     ensures { result ≡ approx_eq_by a b max_error }
 {
-    a.approx_eq_by(b, max_error)
+    YesNo::from(a.approx_eq_by(b, max_error))
 }
 
 // ---- a new one from old ones
@@ -141,7 +141,7 @@ pub extern "C" fn sjurnabel_line_approx_eq_by(a: Interval, b: Interval, max_erro
 pub extern "C" fn sjurnabel_line_union(a: Interval, b: Interval) -> Answer
     ensures { result ≡ union a b }
 {
-    a.union(b)
+    Answer::from(a.union(b))
 }
 
 // What both share.
@@ -149,7 +149,7 @@ pub extern "C" fn sjurnabel_line_union(a: Interval, b: Interval) -> Answer
 pub extern "C" fn sjurnabel_line_intersection(a: Interval, b: Interval) -> Answer
     ensures { result ≡ intersection a b }
 {
-    a.intersection(b)
+    Answer::from(a.intersection(b))
 }
 
 // The interval with the margin added on each side, or taken off where it is negative.
@@ -157,7 +157,7 @@ pub extern "C" fn sjurnabel_line_intersection(a: Interval, b: Interval) -> Answe
 pub extern "C" fn sjurnabel_line_expanded(a: Interval, margin: f64) -> Answer
     ensures { result ≡ expanded a margin }
 {
-    a.expanded(margin)
+    Answer::from(a.expanded(margin))
 }
 
 // The interval grown by a point; a bad point hands it back as it came.
@@ -165,7 +165,7 @@ pub extern "C" fn sjurnabel_line_expanded(a: Interval, margin: f64) -> Answer
 pub extern "C" fn sjurnabel_line_add(a: Interval, p: f64) -> Answer
     ensures { result ≡ add a p }
 {
-    a.add(p)
+    Answer::grown(a, a.add(p))
 }
 
 // ---- points and distances
@@ -175,7 +175,7 @@ pub extern "C" fn sjurnabel_line_add(a: Interval, p: f64) -> Answer
 pub extern "C" fn sjurnabel_line_clamp_point(a: Interval, p: f64) -> Number
     ensures { result ≡ clamp_point a p }
 {
-    a.clamp_point(p)
+    Number::from(a.clamp_point(p))
 }
 
 // A distance that may be without bound: the value is infinity then. C has no enum that holds a number, so
@@ -188,24 +188,38 @@ pub struct CDistance {
     pub value: f64,
 }
 
-// How far a place of a can lie from b, at most; unbounded where b is empty and a is not. Infinity is one
-// over zero, since no constant can be it.
+// Infinity is one over zero, since no constant can be it.
+impl From<Result<Distance, Refusal>> for CDistance {
+    ghost from_gives = { λ r d. d ≡ distance_back (distance_answer_of r) };
+
+    #[tactic(auto, unfolding(crate::specs::Records::is_unbounded, r1::specs::Line::distance_of))]
+    fn from(r: Result<Distance, Refusal>) -> CDistance {
+        match r {
+            Ok(d) => match d {
+                Distance::Of(value) => CDistance {
+                    refusal: 0,
+                    unbounded: false,
+                    value,
+                },
+                Distance::Unbounded => CDistance {
+                    refusal: 0,
+                    unbounded: true,
+                    value: 1.0 / 0.0,
+                },
+            },
+            Err(why) => CDistance {
+                refusal: why.into(),
+                unbounded: false,
+                value: 0.0,
+            },
+        }
+    }
+}
+
+// How far a place of a can lie from b, at most; unbounded where b is empty and a is not.
 #[unsafe(no_mangle)]
 pub extern "C" fn sjurnabel_line_directed_hausdorff_distance(a: Interval, b: Interval) -> CDistance
     ensures { result ≡ distance_back (directed_hausdorff_distance a b) }
 {
-    let h = a.directed_hausdorff_distance(b);
-    let d = h.value;
-    match d {
-        Distance::Of(value) => CDistance {
-            refusal: h.refusal,
-            unbounded: false,
-            value,
-        },
-        Distance::Unbounded => CDistance {
-            refusal: h.refusal,
-            unbounded: true,
-            value: 1.0 / 0.0,
-        },
-    }
+    CDistance::from(a.directed_hausdorff_distance(b))
 }

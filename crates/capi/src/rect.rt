@@ -15,7 +15,7 @@ use s2::rect::{Answer, PointAnswer, Rect};
 pub extern "C" fn sjurnabel_rect_from_latlng(p: LatLng) -> Answer
     ensures { result ≡ from_lat_lng p }
 {
-    Rect::from_latlng(p)
+    Answer::from(Rect::from_latlng(p))
 }
 
 // The rectangle of that size about the center.
@@ -23,7 +23,7 @@ pub extern "C" fn sjurnabel_rect_from_latlng(p: LatLng) -> Answer
 pub extern "C" fn sjurnabel_rect_from_center_size(center: LatLng, size: LatLng) -> Answer
     ensures { result ≡ from_center_size center size }
 {
-    Rect::from_center_size(center, size)
+    Answer::from(Rect::from_center_size(center, size))
 }
 
 // A rectangle that holds two points, its longitudes by the shorter way, but for rounding.
@@ -31,7 +31,7 @@ pub extern "C" fn sjurnabel_rect_from_center_size(center: LatLng, size: LatLng) 
 pub extern "C" fn sjurnabel_rect_from_point_pair(p: LatLng, q: LatLng) -> Answer
     ensures { result ≡ from_point_pair p q }
 {
-    Rect::from_point_pair(p, q)
+    Answer::from(Rect::from_point_pair(p, q))
 }
 
 // ---- what one is
@@ -41,7 +41,7 @@ pub extern "C" fn sjurnabel_rect_from_point_pair(p: LatLng, q: LatLng) -> Answer
 pub extern "C" fn sjurnabel_rect_is_valid(a: Rect) -> YesNo
     ensures { result ≡ is_valid a }
 {
-    a.is_valid()
+    YesNo::from(a.is_valid())
 }
 
 // Whether a holds nothing.
@@ -49,7 +49,7 @@ pub extern "C" fn sjurnabel_rect_is_valid(a: Rect) -> YesNo
 pub extern "C" fn sjurnabel_rect_is_empty(a: Rect) -> YesNo
     ensures { result ≡ is_empty a }
 {
-    a.is_empty()
+    YesNo::from(a.is_empty())
 }
 
 // Whether a holds every place.
@@ -57,7 +57,7 @@ pub extern "C" fn sjurnabel_rect_is_empty(a: Rect) -> YesNo
 pub extern "C" fn sjurnabel_rect_is_full(a: Rect) -> YesNo
     ensures { result ≡ is_full a }
 {
-    a.is_full()
+    YesNo::from(a.is_full())
 }
 
 // Whether a holds a single point.
@@ -65,7 +65,7 @@ pub extern "C" fn sjurnabel_rect_is_full(a: Rect) -> YesNo
 pub extern "C" fn sjurnabel_rect_is_point(a: Rect) -> YesNo
     ensures { result ≡ is_point a }
 {
-    a.is_point()
+    YesNo::from(a.is_point())
 }
 
 // Whether a crosses the 180th meridian; an empty one says yes too.
@@ -73,7 +73,7 @@ pub extern "C" fn sjurnabel_rect_is_point(a: Rect) -> YesNo
 pub extern "C" fn sjurnabel_rect_is_inverted(a: Rect) -> YesNo
     ensures { result ≡ is_inverted a }
 {
-    a.is_inverted()
+    YesNo::from(a.is_inverted())
 }
 
 // The corner of number i modulo 4: lower left, lower right, upper right, upper left.
@@ -81,7 +81,7 @@ pub extern "C" fn sjurnabel_rect_is_inverted(a: Rect) -> YesNo
 pub extern "C" fn sjurnabel_rect_vertex(a: Rect, i: u8) -> PointAnswer
     ensures { result ≡ vertex a i }
 {
-    a.vertex(i)
+    PointAnswer::from(a.vertex(i))
 }
 
 // The lower left corner.
@@ -89,7 +89,7 @@ pub extern "C" fn sjurnabel_rect_vertex(a: Rect, i: u8) -> PointAnswer
 pub extern "C" fn sjurnabel_rect_lo(a: Rect) -> PointAnswer
     ensures { result ≡ vertex a 0 }
 {
-    a.lo()
+    PointAnswer::from(a.lo())
 }
 
 // The upper right corner.
@@ -97,7 +97,7 @@ pub extern "C" fn sjurnabel_rect_lo(a: Rect) -> PointAnswer
 pub extern "C" fn sjurnabel_rect_hi(a: Rect) -> PointAnswer
     ensures { result ≡ vertex a 2 }
 {
-    a.hi()
+    PointAnswer::from(a.hi())
 }
 
 // The middle of the latitudes and of the longitudes.
@@ -105,7 +105,7 @@ pub extern "C" fn sjurnabel_rect_hi(a: Rect) -> PointAnswer
 pub extern "C" fn sjurnabel_rect_center(a: Rect) -> PointAnswer
     ensures { result ≡ center a }
 {
-    a.center()
+    PointAnswer::from(a.center())
 }
 
 // How far the latitudes and the longitudes go; negative where a is empty.
@@ -113,7 +113,7 @@ pub extern "C" fn sjurnabel_rect_center(a: Rect) -> PointAnswer
 pub extern "C" fn sjurnabel_rect_size(a: Rect) -> PointAnswer
     ensures { result ≡ size a }
 {
-    a.size()
+    PointAnswer::from(a.size())
 }
 
 // ---- tests of two, or of one and a point
@@ -123,7 +123,7 @@ pub extern "C" fn sjurnabel_rect_size(a: Rect) -> PointAnswer
 pub extern "C" fn sjurnabel_rect_contains(a: Rect, b: Rect) -> YesNo
     ensures { result ≡ contains a b }
 {
-    a.contains(b)
+    YesNo::from(a.contains(b))
 }
 
 // Whether the inside of a holds every place of b.
@@ -131,7 +131,7 @@ pub extern "C" fn sjurnabel_rect_contains(a: Rect, b: Rect) -> YesNo
 pub extern "C" fn sjurnabel_rect_interior_contains(a: Rect, b: Rect) -> YesNo
     ensures { result ≡ interior_contains a b }
 {
-    a.interior_contains(b)
+    YesNo::from(a.interior_contains(b))
 }
 
 // Whether a holds the point.
@@ -139,7 +139,7 @@ pub extern "C" fn sjurnabel_rect_interior_contains(a: Rect, b: Rect) -> YesNo
 pub extern "C" fn sjurnabel_rect_contains_latlng(a: Rect, p: LatLng) -> YesNo
     ensures { result ≡ contains_lat_lng a p }
 {
-    a.contains_latlng(p)
+    YesNo::from(a.contains_latlng(p))
 }
 
 // Whether the inside of a holds the point.
@@ -147,7 +147,7 @@ pub extern "C" fn sjurnabel_rect_contains_latlng(a: Rect, p: LatLng) -> YesNo
 pub extern "C" fn sjurnabel_rect_interior_contains_latlng(a: Rect, p: LatLng) -> YesNo
     ensures { result ≡ interior_contains_lat_lng a p }
 {
-    a.interior_contains_latlng(p)
+    YesNo::from(a.interior_contains_latlng(p))
 }
 
 // Whether both share a place.
@@ -155,7 +155,7 @@ pub extern "C" fn sjurnabel_rect_interior_contains_latlng(a: Rect, p: LatLng) ->
 pub extern "C" fn sjurnabel_rect_intersects(a: Rect, b: Rect) -> YesNo
     ensures { result ≡ intersects a b }
 {
-    a.intersects(b)
+    YesNo::from(a.intersects(b))
 }
 
 // Whether the inside of a shares a place with b.
@@ -163,7 +163,7 @@ pub extern "C" fn sjurnabel_rect_intersects(a: Rect, b: Rect) -> YesNo
 pub extern "C" fn sjurnabel_rect_interior_intersects(a: Rect, b: Rect) -> YesNo
     ensures { result ≡ interior_intersects a b }
 {
-    a.interior_intersects(b)
+    YesNo::from(a.interior_intersects(b))
 }
 
 // Whether both hold the same places.
@@ -171,7 +171,7 @@ pub extern "C" fn sjurnabel_rect_interior_intersects(a: Rect, b: Rect) -> YesNo
 pub extern "C" fn sjurnabel_rect_eq(a: Rect, b: Rect) -> YesNo
     ensures { result ≡ eq a b }
 {
-    a.eq(b)
+    YesNo::from(a.eq(b))
 }
 
 // Whether both are the same but for noise, 1e-14 an end.
@@ -179,7 +179,7 @@ pub extern "C" fn sjurnabel_rect_eq(a: Rect, b: Rect) -> YesNo
 pub extern "C" fn sjurnabel_rect_approx_eq(a: Rect, b: Rect) -> YesNo
     ensures { result ≡ approx_eq a b }
 {
-    a.approx_eq(b)
+    YesNo::from(a.approx_eq(b))
 }
 
 // The same with the errors given, of latitudes and of longitudes.
@@ -187,7 +187,7 @@ pub extern "C" fn sjurnabel_rect_approx_eq(a: Rect, b: Rect) -> YesNo
 pub extern "C" fn sjurnabel_rect_approx_eq_by(a: Rect, b: Rect, max_error: LatLng) -> YesNo
     ensures { result ≡ approx_eq_by a b max_error }
 {
-    a.approx_eq_by(b, max_error)
+    YesNo::from(a.approx_eq_by(b, max_error))
 }
 
 // ---- a new one from old ones
@@ -197,7 +197,7 @@ pub extern "C" fn sjurnabel_rect_approx_eq_by(a: Rect, b: Rect, max_error: LatLn
 pub extern "C" fn sjurnabel_rect_union(a: Rect, b: Rect) -> Answer
     ensures { result ≡ union a b }
 {
-    a.union(b)
+    Answer::from(a.union(b))
 }
 
 // A rectangle that holds what both share, and it may hold more: the exact answer is the common region.
@@ -205,7 +205,7 @@ pub extern "C" fn sjurnabel_rect_union(a: Rect, b: Rect) -> Answer
 pub extern "C" fn sjurnabel_rect_intersection(a: Rect, b: Rect) -> Answer
     ensures { result ≡ intersection a b }
 {
-    a.intersection(b)
+    Answer::from(a.intersection(b))
 }
 
 // The rectangle with the margins added on each side, or taken off where they are negative.
@@ -213,7 +213,7 @@ pub extern "C" fn sjurnabel_rect_intersection(a: Rect, b: Rect) -> Answer
 pub extern "C" fn sjurnabel_rect_expanded(a: Rect, margin: LatLng) -> Answer
     ensures { result ≡ expanded a margin }
 {
-    a.expanded(margin)
+    Answer::from(a.expanded(margin))
 }
 
 // The rectangle with all longitudes where it reaches a pole.
@@ -221,7 +221,7 @@ pub extern "C" fn sjurnabel_rect_expanded(a: Rect, margin: LatLng) -> Answer
 pub extern "C" fn sjurnabel_rect_polar_closure(a: Rect) -> Answer
     ensures { result ≡ polar_closure a }
 {
-    a.polar_closure()
+    Answer::from(a.polar_closure())
 }
 
 // The rectangle grown by a point; a bad point hands it back as it came.
@@ -229,7 +229,7 @@ pub extern "C" fn sjurnabel_rect_polar_closure(a: Rect) -> Answer
 pub extern "C" fn sjurnabel_rect_add(a: Rect, p: LatLng) -> Answer
     ensures { result ≡ add a p }
 {
-    a.add(p)
+    Answer::grown(a, a.add(p))
 }
 
 // ---- a point
@@ -239,5 +239,5 @@ pub extern "C" fn sjurnabel_rect_add(a: Rect, p: LatLng) -> Answer
 pub extern "C" fn sjurnabel_latlng_is_valid(p: LatLng) -> YesNo
     ensures { result ≡ is_lat_lng p }
 {
-    p.is_valid()
+    YesNo::from(p.is_valid())
 }

@@ -1,16 +1,21 @@
--- What the definitions of cases mean: a case that was written is read back, whatever follows; one that is cut is none; its parts lie in the bytes.
+-- What the definitions of cases mean: a case that was written is read back, whatever follows; one that is cut is none; its parts lie in the bytes,
+-- and what is handed out was cut out there.
 -- By the definitions' own cases. Assumes nothing.
 use mathlib.Core.Path.{◌≡◌, refl, sym, subst, ◌∙◌, ap}
 use mathlib.Core.Bool.{Bool, true, false, cond}
 use mathlib.Core.List.{List, ◌∷◌, ◌++◌, append_assoc}
-use Prim.Native.Nat.{ℕ, ◌+◌, ◌*◌, ◌/◌, ◌%◌, ◌≤◌, ◌<◌}
+use Prim.Native.Nat.{ℕ, ◌+◌, ◌-◌, ◌*◌, ◌/◌, ◌%◌, ◌≤◌, ◌<◌}
 use native.Mathlib.Omega.{arith}
 use borrow.Author.Tests.{leb-true, le-leb, lt-leb}
 use lib.ListN.{length, length-append, get_or, take, drop}
 use lib.Seq.{take-append_seam, drop-append-add, drop-drop}
 use lib.Dec.{leb}
 use lib.Arith.{digits_mod}
-use Rattle.cases.specs.Cases.{digit, two, six, end_of, no_case, first_case, Lies, two_bytes, six_bytes, case_bytes}
+use Rattle.std.proofs.lemmas.List.{length-take-le, length-drop, take_rest}
+use denote.Ref.{Bor}
+use Rattle.std.proofs.Common.{Some}
+use Rattle.cases.specs.declared.Case.{Case}
+use Rattle.cases.specs.Cases.{digit, two, six, end_of, no_case, first_case, case_of, Lies, IsCut, two_bytes, six_bytes, case_bytes}
 
 -- ---- where the parts lie
 pub lies : (s : List ℕ) → Lies (first_case s) (length s)
@@ -32,6 +37,21 @@ pub whole-case : (s : List ℕ) (l n : ℕ) → l ≡ two s 2 → n ≡ six s 5 
     → record { sort = get_or s 0 0; label = 12; line = 12 + l; bytes = 12 + l + 1; end = 12 + l + 1 + n } ≡ first_case s
 unfolding first_case end_of
 whole-case s l n el en h = rw (el, en) (sym (simp (le-leb (12 + two s 2 + 1 + six s 5) (length s) (subst (λ x. x ≤ length s) (simp (el, en)) h))))
+
+-- ---- one that is handed out: it is whole, and was cut out at its places
+cut-length : (s : List ℕ) (l a b : ℕ) → b ≡ a + l → b ≤ length s → length (take (b - a) (drop a s)) ≡ l
+cut-length s l a b e h = length-take-le (b - a) (drop a s) (omega (arith, length-drop {A = ℕ})) ∙ omega arith
+
+pub handed-out : (s : List ℕ) (l n : ℕ) (c : Case) (rest : Bor (List ℕ)) → l ≡ two s 2 → n ≡ six s 5 → 12 + l + 1 + n ≤ length s
+    → c.sort ≡ get_or s 0 0 → c.label.now ≡ take (12 + l - 12) (drop 12 s) → c.bytes.now ≡ take (12 + l + 1 + n - (12 + l + 1)) (drop (12 + l + 1) s)
+    → case_of s (Some (c, rest)) ≡ first_case s
+unfolding case_of
+handed-out s l n c rest el en h sort label bytes =
+    rw (sort, ap length label ∙ cut-length s l 12 (12 + l) refl (omega arith), ap length bytes ∙ cut-length s n (12 + l + 1) (12 + l + 1 + n) refl h) (whole-case s l n el en h)
+
+pub cut-out : (s : List ℕ) (l n : ℕ) → l ≡ two s 2 → n ≡ six s 5 → 12 + l + 1 + n ≤ length s
+    → IsCut s (first_case s) (take (12 + l - 12) (drop 12 s)) (take (12 + l + 1 + n - (12 + l + 1)) (drop (12 + l + 1) s)) (take (length s - (12 + l + 1 + n)) (drop (12 + l + 1 + n) s))
+cut-out s l n el en h = rw (← whole-case s l n el en h) (refl, refl, take_rest s (12 + l + 1 + n))
 
 -- ---- one that is written
 digit-back : (d : ℕ) → d < 10 → (48 + d) % 16 ≡ d

@@ -1,5 +1,6 @@
 -- Stored cases: as their maker writes one, and the one that a list of bytes starts with. Definitions only; what they mean is in proofs/Laws.antt.
-use Rattle.std.specs.Prelude.{cond, List, ◌∷◌, ◌++◌, ℕ, ◌+◌, ◌*◌, ◌/◌, ◌%◌, ◌≤◌, ◌<◌, length, get_or, leb}
+use Rattle.std.specs.Prelude.{cond, List, ◌∷◌, ◌++◌, ℕ, ◌+◌, ◌-◌, ◌*◌, ◌/◌, ◌%◌, ◌≡◌, ◌≤◌, ◌<◌, length, get_or, take, drop, leb, Option, None, Some, MatchOption}
+use denote.Ref.{Bor}
 use Rattle.cases.specs.declared.Case.{Case}
 
 -- ---- as it is written
@@ -31,16 +32,48 @@ six s at = 10000 * two s at + 100 * two s (at + 2) + two s (at + 4)
 unfoldable pub end_of : List ℕ → ℕ
 end_of s = 12 + two s 2 + 1 + six s 5
 
--- no whole case in n bytes
-unfoldable pub no_case : ℕ → Case
+-- a case's sort, and where in the bytes its parts lie: the label from `label` up to `line`, its bytes from `bytes` up to `end`
+pub record Places : Type 0 where
+  pub sort : ℕ
+  pub label : ℕ
+  pub line : ℕ
+  pub bytes : ℕ
+  pub end : ℕ
+
+-- no whole case in n bytes: the sort is 0, and all else is the end
+unfoldable pub no_case : ℕ → Places
 no_case n = record { sort = 0; label = n; line = n; bytes = n; end = n }
 
 -- the case that s starts with, where it is there as a whole
-unfoldable pub first_case : List ℕ → Case
+unfoldable pub first_case : List ℕ → Places
 first_case s =
     cond (leb (end_of s) (length s)) (record { sort = get_or s 0 0; label = 12; line = 12 + two s 2; bytes = 12 + two s 2 + 1; end = end_of s })
     (no_case (length s))
 
 -- the parts of a case lie in n bytes one after the other, and it has one of them at least
-abbrev pub Lies : Case → ℕ → Type 0
+abbrev pub Lies : Places → ℕ → Type 0
 Lies c n = (c.label ≤ c.line) × (c.line ≤ c.bytes) × (c.bytes ≤ c.end) × (c.end ≤ n) × (0 < n → 0 < c.end)
+
+-- ---- as it is handed out
+-- where the parts of a case lie that s starts with, by their lengths; with the case is handed out what comes after it
+unfoldable pub case_of : List ℕ → Option (Case × Bor (List ℕ)) → Places
+case_of s None = no_case (length s)
+case_of s (Some (c, rest)) =
+    record {
+      sort = c.sort;
+      label = 12;
+      line = 12 + length c.label.now;
+      bytes = 12 + length c.label.now + 1;
+      end = 12 + length c.label.now + 1 + length c.bytes.now;
+    }
+
+-- a label, bytes and a rest are what lies in s at these places
+abbrev pub IsCut : List ℕ → Places → List ℕ → List ℕ → List ℕ → Type 0
+IsCut s p label bytes rest =
+    (label ≡ take (p.line - p.label) (drop p.label s)) × (bytes ≡ take (p.end - p.bytes) (drop p.bytes s)) × (rest ≡ drop p.end s)
+
+-- of s the first case is given, and t is left; or there is none, and s is left
+abbrev pub StepsCase : List ℕ → Option Case → List ℕ → Type 0
+StepsCase s r t =
+    MatchOption r ((first_case s ≡ no_case (length s)) × (t ≡ s))
+    (λ c. (c.sort ≡ (first_case s).sort) × IsCut s (first_case s) c.label.now c.bytes.now t)

@@ -4,65 +4,51 @@
 // the reference in `oracle/` (`oracle/cases`).
 #![tactic(auto)]
 
-mod answers;
+ghost use Rattle.std.specs.Prelude.{◌≤◌, length, IfOk};
 
-ghost use Rattle.std.specs.Prelude.{◌≤◌, ◌<◌, length};
-
-use crate::answers::{answer, print, read};
-use std::io::Read;
+use cases::{Case, Cases};
+use consts::Refusal;
 
 // Room for all cases: they have 170,287 bytes.
 const LIMIT: usize = 196608;
 
+// The longest answer: `pieces 512` and 512 lines of 68 bytes.
+const ROOM: usize = 34827;
+
 fn main(rt: HostRuntime) {
-    let mut s = [0u8; LIMIT];
-    show_input(&rt, &mut rt.stdin(), &mut s);
-}
-
-// Where the input cannot be read there is no case.
-fn show_input<R: Read>(rt: &impl Print, reader: &mut R, s: &mut [u8]) {
-    let x = input::read_all(reader, s);
-    let n = x.count;
-    show_all(rt, &s[..n])
-}
-
-// One case after the other. One whose bytes are not all there is the last, and is not shown.
-fn show_all(rt: &impl Print, s: &[u8]) {
-    let mut at = 0;
-    while at < s.len() {
-        at += show_first(rt, &s[at..]);
+    let mut bytes = [0u8; LIMIT];
+    // Where the input cannot be read there is no case.
+    let n = input::read_all(&mut rt.stdin(), &mut bytes).unwrap_or(0);
+    for case in Cases(&bytes[..n]) {
+        show(&rt, case);
     }
-}
-
-// Shows the case at the start of s, and tells where it ends.
-fn show_first(rt: &impl Print, s: &[u8]) -> usize
-    requires { 0 < length s.now }
-    ensures result_nonzero { 0 < result }
-    ensures upper_bound { result ≤ length s.now }
-{
-    let c = cases::first(s);
-    let label = c.label;
-    let line = c.line;
-    let bytes = c.bytes;
-    let end = c.end;
-    show(rt, c.sort, &s[label..line], &s[bytes..end]);
-    end
 }
 
 // Writes a case's label and its answer: that of a stream, or of a record by itself.
-fn show(rt: &impl Print, sort: u8, label: &[u8], s: &[u8]) {
-    if sort == b's' {
-        print_label(rt, label);
-        answer(rt, s);
-    }
-    if sort == b'r' {
-        print_label(rt, label);
-        read(rt, s);
+#[tactic(auto, unfolding(text::specs::Answers::wrote))]
+fn show(rt: &impl Print, case: Case) {
+    let mut out = [0u8; ROOM];
+    let written = match case.sort {
+        b's' => stream::common_text(case.bytes, &mut out),
+        b'r' => record_text(case.bytes, &mut out),
+        _ => return,
+    };
+    let n = written.unwrap_or(0);
+    // (As in `boxes_cases`: a library's function has a contract, and none can speak of what is written.)
+    for part in [b"case ".as_slice(), case.label, b"\n", &out[..n]] {
+        // What cannot be written is missing in the output: the stored one shows it.
+        let _ = rt.write_all(part);
     }
 }
 
-fn print_label(rt: &impl Print, label: &[u8]) {
-    print(rt, b"case ");
-    print(rt, label);
-    print(rt, b"\n");
+// The text of the record at the start of s: the rectangle that is handed out, written as a list of one piece
+// is, or the refusal.
+#[tactic(auto, unfolding(text::specs::Answers::wrote, text::specs::Answers::wrote_pieces, text::specs::Answers::wrote_refusal, text::specs::Answers::refused_with))]
+fn record_text(s: &[u8], out: &mut [u8]) -> Result<usize, Refusal>
+    ensures { IfOk result (λ n. n ≤ length out.new) }
+{
+    match record::read_record(s) {
+        Ok(r) => text::write_pieces(&[r.lat.lo, r.lat.hi, r.lng.lo, r.lng.hi], out),
+        Err(why) => text::write_refusal(why.into(), out),
+    }
 }

@@ -1,4 +1,5 @@
 pub mod Readings
+pub mod Codes
 pub mod Decisions
 pub mod Refusals
 pub mod Sizes

@@ -10,9 +10,12 @@ use Rattle.order.specs.Key.{K, Num, is_zero}
 use Rattle.order.proofs.Keys.{lt-key, le-key, eq-key, zero-key, same_key}
 use Rattle.order.proofs.Ranks.{and_l, and-of}
 use Rattle.order.proofs.Facts.{tests}
-use Rattle.consts.specs.Refusal.{number, accepted}
+use Rattle.std.specs.Prelude.{Result, Ok, Err}
+use Rattle.consts.specs.declared.answer.Number.{Number}
+use Rattle.consts.specs.declared.refusal.Refusal.{Refusal}
+use Rattle.consts.specs.Refusal.{number, accepted, code}
 use Rattle.consts.specs.Answer.{ZERO}
-use Rattle.consts.specs.Reading.{in_reach, plain, read_number}
+use Rattle.consts.specs.Reading.{in_reach, plain, read_number, number_read}
 
 -- ---- in reach
 pub reach-num : (x : Float) → fits binary64 x ≡ true → in_reach x ≡ true → Num x ≡ true
@@ -134,3 +137,30 @@ read-in x n h = simp h
 pub read_out : (x : Float) (n : ℕ) → in_reach x ≡ false → read_number x n ≡ record { refusal = n; value = plain x }
 unfolding read_number
 read_out x n h = simp h
+
+-- ---- the same as a result: accepted under 0, refused under the refusal's number
+pub number_in : (x : Float) (r : Refusal) (v : Float) → Ok v ≡ number_read x r → read_number x (code r) ≡ record { refusal = number accepted; value = v }
+unfolding read_number number_read
+number_in x r v = go (in_reach x)
+  where
+    go : (t : Bool) → ◌≡◌ {A = Result Float Refusal} (Ok v) (cond t (Ok (plain x)) (Err r))
+        → ◌≡◌ {A = Number} (record { refusal = cond t (number accepted) (code r); value = plain x }) (record { refusal = number accepted; value = v })
+    go true e = ap (λ (y : Float). record { refusal = number accepted; value = y }) (sym (ap value e))
+      where
+        value : Result Float Refusal → Float
+        value (Ok y) = y
+        value (Err w) = x
+    go false e = cc
+
+pub number_out : (x : Float) (r e : Refusal) → Err e ≡ number_read x r → (read_number x (code r) ≡ record { refusal = code r; value = plain x }) × (e ≡ r)
+unfolding read_number number_read
+number_out x r e = go (in_reach x)
+  where
+    go : (t : Bool) → ◌≡◌ {A = Result Float Refusal} (Err e) (cond t (Ok (plain x)) (Err r))
+        → (◌≡◌ {A = Number} (record { refusal = cond t (number accepted) (code r); value = plain x }) (record { refusal = code r; value = plain x })) × (e ≡ r)
+    go true q = cc
+    go false q = (refl, ap refused q)
+      where
+        refused : Result Float Refusal → Refusal
+        refused (Ok y) = r
+        refused (Err w) = w

@@ -1,10 +1,11 @@
 -- The answers that every layer gives, accepted and refused: a yes or no, and a number. Definitions only.
-use Rattle.std.specs.Prelude.{◌≡◌, Bool, true, false, ◌↔◌, ℕ, Float}
+use Rattle.std.specs.Prelude.{◌≡◌, Bool, true, false, ◌↔◌, ℕ, Float, Result, Ok, Err}
 use Rattle.std.specs.Float.{binary64}
 use Rattle.std.specs.Float.Ieee.{of_bits}
 use Rattle.consts.specs.declared.answer.YesNo.{YesNo}
 use Rattle.consts.specs.declared.answer.Number.{Number}
-use Rattle.consts.specs.Refusal.{Reason, number, accepted, given, GivenExactly, GivenInTurn}
+use Rattle.consts.specs.declared.refusal.Refusal.{Refusal}
+use Rattle.consts.specs.Refusal.{Reason, number, accepted, code, given, GivenExactly, GivenInTurn}
 
 abbrev pub ZERO : Float
 ZERO = of_bits binary64 0
@@ -22,6 +23,15 @@ number_answer x = record { refusal = number accepted; value = x }
 -- a refused number is zero
 abbrev pub zero_under : ℕ → Number
 zero_under n = record { refusal = n; value = ZERO }
+
+-- the answer that a result stands for
+abbrev pub yes_no_of : Result Bool Refusal → YesNo
+yes_no_of (Ok b) = yes_no b
+yes_no_of (Err r) = no_under (code r)
+
+abbrev pub number_of : Result Float Refusal → Number
+number_of (Ok x) = number_answer x
+number_of (Err r) = zero_under (code r)
 
 -- the answer b, where the refusal number is 0
 abbrev pub test : ℕ → Bool → YesNo

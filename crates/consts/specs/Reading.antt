@@ -1,5 +1,5 @@
 -- How a number that comes in is read. Definitions only; the laws are in proofs/Readings.antt.
-use Rattle.std.specs.Prelude.{◌≡◌, Bool, ◌&&◌, cond, ℕ, Float}
+use Rattle.std.specs.Prelude.{◌≡◌, Bool, ◌&&◌, cond, ℕ, Float, Result, Ok, Err}
 use Rattle.std.specs.Float.{binary64}
 use Rattle.std.specs.Float.Ieee.{of_bits, le, eq}
 use Rattle.consts.specs.declared.answer.Number.{Number}
@@ -28,3 +28,7 @@ NoMinus x = plain x ≡ x
 -- a point, a margin or an error, under 0 or, where it is out of reach, under the number n
 unfoldable pub read_number : Float → ℕ → Number
 read_number x n = record { refusal = cond (in_reach x) (number accepted) n; value = plain x }
+
+-- the same by what it is refused with, of whatever type
+unfoldable pub number_read : {E : Type 0} → Float → E → Result Float E
+number_read x e = cond (in_reach x) (Ok (plain x)) (Err e)

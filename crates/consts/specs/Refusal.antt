@@ -1,5 +1,8 @@
 -- Document 01's refusal numbers, and those that document 02 adds: why something is refused, and the number of each. Definitions only.
-use Rattle.std.specs.Prelude.{◌≡◌, Bool, ◌||◌, cond, ◌↔◌, ℕ, eqb}
+use Rattle.std.specs.Prelude.{◌≡◌, Bool, ◌||◌, cond, ◌↔◌, ℕ, eqb, Result, Ok, Err}
+use Rattle.consts.specs.declared.refusal.Refusal.{Refusal}
+use Rattle.consts.specs.declared.refusal.Refusal.TheVariants.{OutOfReach, BadLatitude, BadCircle, HalfEmpty, BadPoint, BadMargin, BadList, NoRoom}
+use Rattle.consts.specs.declared.refusal.Refusal.TheVariants.{BadRecord, BadText, BadBox}
 
 pub data Reason : Type 0 where
   -- the answer stands
@@ -40,6 +43,29 @@ number no_room = 6
 number bad_record = 7
 number bad_text = 8
 number bad_box = 9
+
+-- what a refusal of the code is given for
+abbrev pub reason : Refusal → Reason
+reason OutOfReach = out_of_reach
+reason BadLatitude = bad_latitude
+reason BadCircle = bad_circle
+reason HalfEmpty = half_empty
+reason BadPoint = bad_point
+reason BadMargin = bad_margin
+reason BadList = bad_list
+reason NoRoom = no_room
+reason BadRecord = bad_record
+reason BadText = bad_text
+reason BadBox = bad_box
+
+-- its number
+abbrev pub code : Refusal → ℕ
+code r = number (reason r)
+
+-- the refusal number of a result, whatever it holds
+abbrev pub refusal_of : {A : Type 0} → Result A Refusal → ℕ
+refusal_of (Ok v) = number accepted
+refusal_of (Err r) = code r
 
 -- why a rectangle whose numbers are in reach is not valid, or 0: its latitudes are within their range, its circle interval is valid, its parts are both empty or
 -- neither is; the first of these three that does not hold decides

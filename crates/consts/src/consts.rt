@@ -5,10 +5,11 @@
 // not by libm's remquo, refuses what lies beyond 4 PI, and answers no negative zero; what the port
 // does not use is left behind.
 ghost use Rattle.std.specs.Prelude.{true, ◌≡◌};
+ghost use Rattle.consts.specs.Answer.{number_of};
 ghost use Rattle.consts.specs.Remainder.{within_four_pi, remainder_of, remainder};
 
-use crate::answer::{BAD_MARGIN, Number};
 use crate::reading::zero_read;
+use crate::refusal::Refusal;
 
 pub const PI: f64 = 3.141592653589793;
 
@@ -73,12 +74,13 @@ fn reduced(x: f64) -> f64
 // Laws: Remainders.answer-is, Remainders.one_answer, Remainders.only-remainder, Turns.stays-in-range.
 // Ruled out: of 3 PI, a tie: PI (it is -PI); of 2 PI: 2 PI; of 402921FB54442D19, above 4 PI:
 // 3CE0000000000000.
-pub fn remainder(x: f64) -> Number
-    ensures { result ≡ remainder x }
+#[tactic(auto, unfolding(crate::specs::Remainder::remainder, crate::specs::Remainder::within_four_pi))]
+pub fn remainder(x: f64) -> Result<f64, Refusal>
+    ensures { number_of result ≡ remainder x }
 {
     if (NEG_FOUR_PI <= x) & (x <= FOUR_PI) {
-        Number::accepted(reduced(x))
+        Ok(reduced(x))
     } else {
-        Number::refused(BAD_MARGIN)
+        Err(Refusal::BadMargin)
     }
 }

@@ -6,10 +6,9 @@
 mod answer;
 mod consts;
 mod reading;
+mod refusal;
 
-pub use answer::{
-    ACCEPTED, BAD_BOX, BAD_CIRCLE, BAD_LATITUDE, BAD_LIST, BAD_MARGIN, BAD_POINT, BAD_RECORD,
-    BAD_TEXT, HALF_EMPTY, NO_ROOM, Number, OUT_OF_REACH, YesNo, first_fault, first_refusal,
-};
+pub use answer::{Number, YesNo};
 pub use consts::{DBL_EPSILON, EPSILON, NEG_PI, PI, TURN, remainder};
-pub use reading::{in_reach, read_number, zero_read};
+pub use reading::{in_reach, read_margin, read_number, zero_read};
+pub use refusal::{Refusal, first_fault};

@@ -199,8 +199,12 @@ module _ (b : Bounds) (g : Givable b) where
   own-reading : as_read (rect_of b) ≡ rect_of b
   unfolding as_read rect_of
   own-reading =
-      simp
-      (no-minus-zero b.south (latitude-size b.south g.south), no-minus-zero b.north (latitude-size b.north g.north), no-minus-zero b.west (longitude-size b.west g.west), no-minus-zero b.east (longitude-size b.east g.east))
+      simp (
+        no-minus-zero b.south (latitude-size b.south g.south),
+        no-minus-zero b.north (latitude-size b.north g.north),
+        no-minus-zero b.west (longitude-size b.west g.west),
+        no-minus-zero b.east (longitude-size b.east g.east),
+      )
 
 -- ---- the answer
 module _ (b : Bounds) (h : givable b ≡ true) where

@@ -1,7 +1,10 @@
 -- The radians of n ten-millionths of a degree, up to 180 degrees, in units of the smallest double: `height n`, and it rises strictly. The exact value is n
 -- times a constant, each of the two roundings moves it by at most one part in 2 ^ 53 (Relative), and n + 1 differs from n by far more than that.
 -- The laws on products are over any numbers, so that 2 ^ 1074 is multiplied out only where both sides are closed. Assumes nothing.
-use Rattle.std.proofs.Common.{◌≡◌, ℕ, zero, suc, ◌*◌, ◌^◌, ◌<◌, ◌≤◌, sym, ap, ◌∙◌, subst, zero-le, le_trans, le_of_eq, lt_of_lt_of_le, lt_of_le_of_lt, mul-le-mul_right, zero-lt-suc, mul_assoc, mul_comm, lt_of_mul-lt-mul_right, mul-le-mul_left, mul-lt-mul_of_pos_right, mul_right_comm, le_of_mul-le-mul_right, mul_left_comm, arith, lit<, lit≤, pow_pos}
+use Rattle.std.proofs.Common.{◌≡◌, ℕ, zero, suc, ◌*◌, ◌^◌, ◌<◌, ◌≤◌, ◌∙◌}
+use Rattle.std.proofs.Common.{sym, ap, subst, zero-le, le_trans, le_of_eq, lt_of_lt_of_le, lt_of_le_of_lt, mul-le-mul_right, zero-lt-suc, mul_assoc, mul_comm}
+use Rattle.std.proofs.Common.{lt_of_mul-lt-mul_right, mul-le-mul_left, mul-lt-mul_of_pos_right, mul_right_comm, le_of_mul-le-mul_right, mul_left_comm, arith}
+use Rattle.std.proofs.Common.{lit<, lit≤, pow_pos}
 use native.Mathlib.Nat.{mul-mul-mul_comm}
 use lib.Ieee.{binary64, low, size}
 use lib.Ieee.Scale.{grid, overflow}

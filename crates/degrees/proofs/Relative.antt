@@ -1,6 +1,8 @@
 -- How far one rounding moves a number of the normal range, as a part of the number: at most one part in 2 ^ 53. A number is rounded to a multiple of its
 -- grid and moves by no more than half of that, and 2 ^ 52 of the grid are at most the number. Assumes nothing.
-use Rattle.std.proofs.Common.{◌≡◌, ℕ, ◌+◌, ◌-◌, ◌*◌, ◌/◌, ◌%◌, ◌^◌, ◌<◌, ◌≤◌, not, T, sym, ap, ◌∙◌, subst, le_trans, le_of_eq, mul-le-mul_right, mod-lt, mul_assoc, mul_comm, add-mul, mul-pos, div-add-mod', le-div_iff_mul-le, mul_right_comm, le_of_mul-le-mul_right, arith, eqb→eq, leb→le, pow_pos, pow-add}
+use Rattle.std.proofs.Common.{◌≡◌, ℕ, ◌+◌, ◌-◌, ◌*◌, ◌/◌, ◌%◌, ◌^◌, ◌<◌, ◌≤◌, not, T, ◌∙◌}
+use Rattle.std.proofs.Common.{sym, ap, subst, le_trans, le_of_eq, mul-le-mul_right, mod-lt, mul_assoc, mul_comm, add-mul, mul-pos, div-add-mod'}
+use Rattle.std.proofs.Common.{le-div_iff_mul-le, mul_right_comm, le_of_mul-le-mul_right, arith, eqb→eq, leb→le, pow_pos, pow-add}
 use Prim.Native.Nat.{compare, Ordering}
 use lib.Dec.{is_le, compare_is_eq, nleb→lt}
 use lib.Ieee.{binary64, low, size, nearest}

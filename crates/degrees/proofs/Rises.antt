@@ -1,6 +1,8 @@
 -- The radians of a whole number of ten-millionths rise strictly from -180 to 180 degrees, so that no two of them become one double: the key of the double
 -- is `height` above or below the middle, by the sign (Heights). Assumes nothing.
-use Rattle.std.proofs.Common.{◌≡◌, ℕ, suc, ◌+◌, ◌-◌, ◌*◌, ◌<◌, ◌≤◌, Bool, true, false, cond, T, ltb, ◌⊎◌, ℤ, pos, negsuc, nat_abs, sym, refl, ap, ◌∙◌, subst, inl, inr, suc-le-suc, le_trans, lt_of_lt_of_le, zero-lt-suc, mul_assoc, mul_comm, mul-pos, arith, lit<, lit≤, ltb-false, ltb-true, lt-ltb, eqb-true}
+use Rattle.std.proofs.Common.{◌≡◌, ℕ, suc, ◌+◌, ◌-◌, ◌*◌, ◌<◌, ◌≤◌, Bool, true, false, cond, T, ltb, ◌⊎◌, ℤ, pos, negsuc, nat_abs, ◌∙◌, inl, inr}
+use Rattle.std.proofs.Common.{sym, refl, ap, subst, suc-le-suc, le_trans, lt_of_lt_of_le, zero-lt-suc, mul_assoc, mul_comm, mul-pos, arith, lit<, lit≤}
+use Rattle.std.proofs.Common.{ltb-false, ltb-true, lt-ltb, eqb-true}
 use mathlib.Core.Bool.{and-true, false≢true}
 use native.Mathlib.Nat.{mul-mul-mul_comm, eq_of_mul-eq-mul_right}
 use lib.Signed.{lt_z, le_z, lt_z_yes, le_z_yes, clash_ℤ}

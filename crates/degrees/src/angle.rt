@@ -26,6 +26,7 @@ const PER_DEGREE: f64 = PI / 180.0;
 // The product with PI / 180, for any number whatever.
 // Laws: Angles.per-degree (the factor is PI / 180, rounded once).
 // Ruled out: of 180: 400921FB54442D17; of 1: 3F91DF46A2529D3A.
+#[tactic(auto, unfolding(crate::specs::Degrees::from_degrees))]
 pub fn from_degrees(x: f64) -> f64
     ensures { result ≡ from_degrees x }
 {

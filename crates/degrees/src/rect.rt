@@ -1,18 +1,20 @@
 // A box in whole ten-millionths of a degree as a rectangle in radians.
 ghost use Rattle.std.specs.Prelude.{◌≡◌};
+ghost use Rattle.s2.specs.Answers.{rectangle_of};
 ghost use Rattle.degrees.specs.Degrees.{degrees, radians, rect_of, to_rect};
 
 use crate::angle::from_degrees;
 use bounds::{Bounds, can_give};
-use consts::{ACCEPTED, BAD_BOX};
+use consts::Refusal;
 use r1::interval::Interval as Line;
 use s1::interval::Interval as Circle;
-use s2::rect::{Answer, Rect};
+use s2::rect::Rect;
 
 // Ten-millionths in a degree.
 const TEN_MILLION: f64 = 10000000.0;
 
 // A whole number of ten-millionths as the nearest double of its degrees.
+#[tactic(auto, unfolding(crate::specs::Degrees::degrees))]
 fn degrees_of(w: i64) -> f64
     ensures { result ≡ degrees w }
 {
@@ -24,6 +26,7 @@ fn degrees_of(w: i64) -> f64
 // Rises.one-to-one.
 // Ruled out: of -1,800,000,000: anything but -PI; of 1: what 2 has; of 3: 3E367D07881BB1EA (by a
 // product with 1/10^7).
+#[tactic(auto, unfolding(crate::specs::Degrees::radians))]
 pub fn radians_of(w: i64) -> f64
     ensures { result ≡ radians w }
 {
@@ -31,6 +34,7 @@ pub fn radians_of(w: i64) -> f64
 }
 
 // The four numbers in radians, south to north and west to east.
+#[tactic(auto, unfolding(crate::specs::Degrees::rect_of))]
 fn rect_of(b: Bounds) -> Rect
     ensures { result ≡ rect_of b }
 {
@@ -50,19 +54,13 @@ fn rect_of(b: Bounds) -> Rect
 // Laws: Boxes.is-valid, Boxes.not-empty, Boxes.latitudes, Boxes.seam, Boxes.read_back,
 // Boxes.same-box, Boxes.refused.
 // Ruled out: of [180, 0, 180, 1]: EMPTY longitudes; of [0, 0, -180, 0]: a rectangle, under 0.
-pub fn to_rect(b: Bounds) -> Answer
-    ensures { result ≡ to_rect b }
+#[tactic(auto, unfolding(crate::specs::Degrees::to_rect))]
+pub fn to_rect(b: Bounds) -> Result<Rect, Refusal>
+    ensures { rectangle_of result ≡ to_rect b }
 {
     if can_give(b) {
-        let value = rect_of(b);
-        return Answer {
-            refusal: ACCEPTED,
-            value,
-        };
-    }
-    let value = Rect::EMPTY;
-    Answer {
-        refusal: BAD_BOX,
-        value,
+        Ok(rect_of(b))
+    } else {
+        Err(Refusal::BadBox)
     }
 }

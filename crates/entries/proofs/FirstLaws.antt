@@ -13,9 +13,8 @@ use lib.Dec.{eqb}
 use lib.ListN.{length, take, get_or}
 use lib.Seq.{take_all, take-suc}
 use Rattle.consts.specs.Refusal.{first_refusal}
-use Rattle.entries.specs.declared.records.First.{First}
 use Rattle.entries.specs.Lists.{All}
-use Rattle.entries.specs.First.{first_number, first_entry, first_of}
+use Rattle.entries.specs.First.{First, first_number, first_entry, first_of}
 use Rattle.entries.proofs.Entries.{all_append}
 
 module _ {A : Type 0} (why : A → ℕ) where

@@ -3,3 +3,4 @@ pub mod Lengths
 pub mod FirstLaws
 pub mod Inputs
 pub mod Written
+pub mod Told

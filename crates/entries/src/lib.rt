@@ -6,4 +6,4 @@
 
 mod records;
 
-pub use records::{First, no_number, number_at, of_entry, whole};
+pub use records::{Fault, no_number, number_at, of_entry, whole};

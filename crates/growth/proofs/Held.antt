@@ -4,6 +4,7 @@ use mathlib.Core.Path.{◌≡◌, refl, sym, ap, ◌∙◌}
 use mathlib.Core.Bool.{Bool, true, false, not, ◌&&◌, ◌||◌, cond, false≢true}
 use mathlib.Core.List.{List}
 use Prim.Native.Nat.{ℕ, ◌+◌, ◌<◌}
+use native.Mathlib.Omega.{arith}
 use lib.ListN.{length, drop}
 use lib.Ieee.{Float, binary64, fits, le, eq}
 use Rattle.order.specs.Key.{Num}
@@ -28,7 +29,7 @@ use Rattle.s1.proofs.Held.{num-PI, num-NEG, lo-num, hi-num}
 use Rattle.s1.proofs.Limits.{OnCircle}
 use Rattle.s2.specs.declared.latlng.LatLng.{LatLng}
 use Rattle.s2.specs.declared.rect.Rect.{Rect}
-use Rattle.s2.specs.declared.reading.Pair.{Pair}
+use Rattle.s2.specs.Reading.{Pair}
 use Rattle.s2.specs.Zone.{NORTH, SOUTH, latitude, is_lat_lng, add}
 use Rattle.s2.specs.declared.rect.Answer.{Answer}
 use Rattle.s2.specs.Reading.{plain_point, read_point, NoMinusRect}
@@ -41,7 +42,7 @@ use Rattle.s2.proofs.Accepted.{add_is}
 use Rattle.lists.specs.Points.{points_of, point_at}
 use Rattle.lists.proofs.PointLists.{two}
 use Rattle.growth.specs.RunningBox.{after, running}
-use Rattle.growth.specs.Devices.{is_on, is_held, bad_in}
+use Rattle.growth.specs.Devices.{is_on, is_held, bad_in, HeldUntil}
 use Rattle.growth.proofs.RunningBox.{read_same, call-good}
 
 -- ---- the latitudes
@@ -224,3 +225,15 @@ module _ (q : Rect) (l : List Float) (i : ℕ) (n : i + 1 < length l) (v : Valid
   pub held-good : bad_in (points_of (drop (i + 2) l)) ≡ bad_in (points_of (drop i l))
   unfolding bad_in
   held-good = sym (ap bad_in (two l i n) ∙ simp (held-accepted q (point_at l i) v d h))
+
+-- one point more is passed over
+pub held_more : {q : Rect} {l : List Float} {first i : ℕ} → HeldUntil l first q i → i + 1 < length l → Valid q → DoublePoint (point_at l i)
+    → is_held q (point_at l i) ≡ true → NoMinusRect q → HeldUntil l first q (i + 2)
+held_more {q} {l} {first} {i} was n v d h m =
+    record {
+      box = held-turn q l i n v d h m ∙ was.box;
+      bad = held-good q l i n v d h ∙ was.bad;
+      from = omega (arith, was.from);
+      up_to = omega (arith, n);
+      whole = omega (arith, was.whole);
+    }

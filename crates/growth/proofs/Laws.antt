@@ -14,7 +14,7 @@ use Rattle.consts.specs.Refusal.{number, accepted, bad_point, bad_list, of_entry
 use Rattle.s2.specs.declared.latlng.LatLng.{LatLng}
 use Rattle.s2.specs.declared.rect.Rect.{Rect}
 use Rattle.s2.specs.declared.rect.Answer.{Answer}
-use Rattle.s2.specs.declared.reading.One.{One}
+use Rattle.s2.specs.Reading.{One}
 use Rattle.s2.specs.Zone.{at, is_lat_lng}
 use Rattle.s2.specs.Reading.{as_read, NoMinusRect}
 use Rattle.s2.specs.Answers.{rect_answer, empty_under, add}

@@ -5,3 +5,4 @@ pub mod Laws
 pub mod Made
 pub mod Examples
 pub mod Promises
+pub mod Determined

@@ -1,7 +1,7 @@
 -- What `grow` and `running` make of a start that was read and of the calls, on plain lists: by the start's number, and by how many calls were refused.
 -- Assumes nothing.
 use mathlib.Core.Path.{◌≡◌, refl, sym, ap, ◌∙◌, subst}
-use mathlib.Core.Bool.{Bool, true, false, cond}
+use mathlib.Core.Bool.{Bool, true, false, cond, ◌||◌}
 use mathlib.Core.List.{List, [], ◌∷◌}
 use Prim.Native.Nat.{ℕ, suc, ◌-◌, ◌/◌, ◌≤◌}
 use native.Mathlib.Omega.{arith}
@@ -9,13 +9,16 @@ use borrow.Author.Tests.{eqb-true, eqb-false, ne_eqb}
 use lib.Dec.{eqb}
 use lib.ListN.{length}
 use lib.Ieee.{Float}
-use Rattle.consts.specs.Refusal.{number, accepted, bad_point, first_refusal, given}
+use Rattle.std.specs.Prelude.{Err}
+use Rattle.consts.specs.declared.refusal.Refusal.{Refusal}
+use Rattle.consts.specs.Refusal.{number, accepted, bad_point, code, first_refusal, given}
+use Rattle.consts.proofs.Codes.{refuses}
 use Rattle.s2.specs.declared.latlng.LatLng.{LatLng}
 use Rattle.s2.specs.declared.rect.Rect.{Rect}
 use Rattle.s2.specs.declared.rect.Answer.{Answer}
 use Rattle.s2.specs.Zone.{is_lat_lng}
 use Rattle.s2.specs.Reading.{as_read, read_point, NoMinusRect}
-use Rattle.s2.specs.Answers.{rect_answer}
+use Rattle.s2.specs.Answers.{rect_answer, empty_under, grown_of}
 use Rattle.s2.specs.Places.{Doubles, DoublePoint, Valid}
 use Rattle.s2.proofs.Readings.{valid-read}
 use Rattle.s2.proofs.Zeros.{read_plain}
@@ -49,6 +52,14 @@ first-bad (p ∷ l) = go (is_lat_lng p) (first-bad l)
 -- ---- the start, of doubles, has been read
 pub started : {r : Rect} {l : List Float} {x : Answer} → Doubles r → All DoublePoint (points_of l) → x ≡ start_of r l → Started r l x
 started {r} {l} {x} d ds e = record { is = e; good = λ k. (start-0 r l d).0 (ap (λ (y : Answer). y.refusal) (sym e) ∙ k); points = ds }
+
+-- a refused start has the refusal's own number
+pub refused_start : (r : Rect) (w : Refusal) → (grown_of r (Err w)).refusal ≡ 0 → ⊥
+refused_start r w = go (eqb (code w) 3 || eqb (code w) 5)
+  where
+    go : (t : Bool) → (cond t (under (code w) r) (empty_under (code w))).refusal ≡ 0 → ⊥
+    go true e = refuses w e
+    go false e = refuses w e
 
 -- ---- after the start x was read
 module _ {r : Rect} {l : List Float} {x : Answer} (s : Started r l x) where
@@ -122,3 +133,10 @@ module _ {r : Rect} {l : List Float} {x : Answer} (s : Started r l x) where
 
       pub ran-made : (b : Rect) → b ≡ cond (eqb rest 0) r a.value → ran r l ≡ record { refusal = number accepted; accepted = rest; value = b }
       ran-made b h = ran-are r l good.0 good.1 ∙ (λ i. record { refusal = number accepted; accepted = counted i; value = sym (kept-is b h) i })
+
+-- a refusal of the start is the whole's
+pub refused_grow : (r : Rect) (l : List Float) (w : Refusal) → Started r l (grown_of r (Err w)) → grow r l ≡ grown_of r (Err w)
+refused_grow r l w s = grow-refused s (refused_start r w)
+
+pub refused_run : (r : Rect) (l : List Float) (w : Refusal) → Started r l (grown_of r (Err w)) → ran r l ≡ no_calls (grown_of r (Err w))
+refused_run r l w s = ran-refused s (refused_start r w)

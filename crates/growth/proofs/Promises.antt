@@ -62,7 +62,8 @@ pub bad-list-result : (r : Rect) (l : List Float) → (length l % 2 ≡ 0 → �
 bad-list-result r l h = laws.list-refused r l ((point-list-refused l).1 h)
 
 -- 0: else it is accepted
-pub accepted-when : (r : Rect) (l : List Float) → Doubles r → All DoublePoint (points_of l) → ((grow r l).refusal ≡ number accepted) ↔ ((whole 2 4096 l ≡ true) × Valid r × All ValidPoint (points_of l))
+pub accepted-when : (r : Rect) (l : List Float) → Doubles r → All DoublePoint (points_of l)
+    → ((grow r l).refusal ≡ number accepted) ↔ ((whole 2 4096 l ≡ true) × Valid r × All ValidPoint (points_of l))
 accepted-when r l d e = (there, back)
   where
     there : (grow r l).refusal ≡ number accepted → (whole 2 4096 l ≡ true) × Valid r × All ValidPoint (points_of l)
@@ -77,7 +78,8 @@ pub one_by_one : (r : Rect) (l : List Float) → Doubles r → All DoublePoint (
     → (grow r l ≡ rect_answer (as_read (running r (points_of l)))) × (accepted_of r (points_of l) ≡ points_of l)
 one_by_one r l d e h = let a = (laws.accepted-exactly r l d e).0 h in (laws.accepted-is r l a, box.all-accepted r (points_of l) a.start a.points)
 
-pub growth-runs : (r : Rect) (l : List Float) → Doubles r → All DoublePoint (points_of l) → (grow r l).refusal ≡ number accepted → (points_of l ≡ [] → ⊥) → grow r l ≡ rect_answer (running r (points_of l))
+pub growth-runs : (r : Rect) (l : List Float) → Doubles r → All DoublePoint (points_of l) → (grow r l).refusal ≡ number accepted
+    → (points_of l ≡ [] → ⊥) → grow r l ≡ rect_answer (running r (points_of l))
 growth-runs r l d e h n = laws.growth-runs r l ((laws.accepted-exactly r l d e).0 h) n
 
 -- for a list of one point it is the rectangle's own growth by that point, whatever the numbers are

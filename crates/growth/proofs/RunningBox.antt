@@ -14,7 +14,7 @@ use lib.Ieee.{Float}
 use Rattle.s2.specs.declared.latlng.LatLng.{LatLng}
 use Rattle.s2.specs.declared.rect.Rect.{Rect}
 use Rattle.s2.specs.declared.rect.Answer.{Answer}
-use Rattle.s2.specs.declared.reading.Pair.{Pair}
+use Rattle.s2.specs.Reading.{Pair}
 use Rattle.s2.specs.Zone as zone
 use Rattle.s2.specs.Zone.{is_lat_lng}
 use Rattle.s2.specs.Reading.{as_read, plain_point, read_point, NoMinusRect}

@@ -1,7 +1,7 @@
 -- What the functions of src/ do step by step, on plain lists: the start is read; then each turn of the loop makes one call more, and the calls so far with
 -- those that are left come to the whole. Assumes nothing.
 use mathlib.Core.Path.{◌≡◌, refl, sym, ap, ◌∙◌, subst}
-use mathlib.Core.Bool.{Bool, true, false, not}
+use mathlib.Core.Bool.{true, false}
 use mathlib.Core.List.{List}
 use Prim.Native.Nat.{ℕ, suc, ◌+◌, ◌<◌, ◌≤◌}
 use native.Mathlib.Omega.{arith}
@@ -10,17 +10,20 @@ use lib.Dec.{T}
 use borrow.Author.Tests.{eq-eqb, ne_eqb}
 use lib.Ieee.{Float, binary64, fits, nan}
 use denote.Floats.{is_true}
-use Rattle.consts.specs.Refusal.{number, bad_list}
+use Rattle.std.specs.Prelude.{Result, Ok, Err, IfOk}
+use lib.Dec.{eqb}
+use Rattle.consts.specs.declared.refusal.Refusal.{Refusal}
+use Rattle.consts.specs.Refusal.{number, bad_list, refusal_of}
+use Rattle.consts.proofs.Codes.{code_refuses}
 use Rattle.s2.specs.declared.latlng.LatLng.{LatLng}
 use Rattle.s2.specs.declared.rect.Rect.{Rect}
 use Rattle.s2.specs.declared.rect.Answer.{Answer}
-use Rattle.s2.specs.declared.reading.One.{One}
-use Rattle.s2.specs.declared.reading.Pair.{Pair}
+use Rattle.s2.specs.Reading.{Pair}
 use Rattle.s2.specs.Zone as zone
-use Rattle.s2.specs.Reading.{plain_point, read_one, read_point, NoMinusRect}
-use Rattle.s2.specs.Answers.{rect_answer, empty_under, rectangle}
+use Rattle.s2.specs.Reading.{as_read, plain_point, read_one, read_point, NoMinusRect}
+use Rattle.s2.specs.Answers.{rect_answer, rectangle, grown_of}
 use Rattle.s2.specs.Places.{Valid, ValidPoint, DoublePoint}
-use Rattle.s2.proofs.Readings.{point-in}
+use Rattle.s2.proofs.Readings.{point-in, no_bad_point, no_bad_list}
 use Rattle.s2.proofs.Accepted.{add_is}
 use Rattle.entries.specs.Lists.{whole}
 use Rattle.lists.specs.Points.{points_of, point_at}
@@ -32,31 +35,17 @@ use Rattle.growth.specs.Growth.{under, start_of}
 use Rattle.growth.specs.Devices.{bad_in, Growing, HeldUntil, SoFar, AfterCalls}
 use Rattle.growth.proofs.RunningBox.{read_same, call-good, call-refused, call-valid, call-plain}
 
--- the way that a test took
-pub taken : {b : Bool} → not b ≡ true → b ≡ false
-taken {b = true} h = sym h
-taken {b = false} h = refl
-
-pub passed : {b : Bool} → not b ≡ false → b ≡ true
-passed {b = true} h = refl
-passed {b = false} h = sym h
-
 -- ---- the start, by what reading it gave
 pub bad-length : (r : Rect) (l : List Float) → whole 2 4096 l ≡ false → start_of r l ≡ under (number bad_list) r
 unfolding start_of
 bad-length r l w = simp w
 
-module _ (r : Rect) (l : List Float) (w : whole 2 4096 l ≡ true) (x : One) (e : x ≡ read_one r) where
-  abbrev by_reading : One → Answer
-  by_reading y = rectangle y.refusal y.value
-
-  pub start-refused : (x.refusal ≡ 0 → ⊥) → start_of r l ≡ empty_under x.refusal
-  unfolding start_of read_one
-  start-refused k = rw w (ap by_reading (sym e) ∙ rw (ne_eqb x.refusal 0 k) refl)
-
-  pub start-read : x.refusal ≡ 0 → start_of r l ≡ rect_answer x.value
-  unfolding start_of read_one
-  start-read k = rw w (ap by_reading (sym e) ∙ rw (eq-eqb x.refusal 0 k) refl)
+pub start-is : (r : Rect) (l : List Float) → whole 2 4096 l ≡ true → (x : Result Rect Refusal) → refusal_of x ≡ (read_one r).refusal → IfOk x (λ v. v ≡ (read_one r).value)
+    → start_of r l ≡ grown_of r x
+unfolding start_of read_one
+start-is r l w (Ok q) e v = rw w (ap (λ (n : ℕ). rectangle n (as_read r)) (sym e) ∙ ap rect_answer (sym v))
+start-is r l w (Err u) e v =
+    rw w (ap (λ (n : ℕ). rectangle n (as_read r)) (sym e) ∙ rw (code_refuses u, ap (λ (n : ℕ). eqb n 3) e ∙ no_bad_point r, ap (λ (n : ℕ). eqb n 5) e ∙ no_bad_list r) refl)
 
 -- ---- the calls
 pub no-calls-yet : {l : List Float} {q : Rect} → Growing l 0 q → SoFar l q q 0 0

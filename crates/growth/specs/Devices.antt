@@ -1,7 +1,7 @@
 -- Devices of the proofs: points that a box holds already, in the order in which they are tested, how many points are refused, and what the functions of src/
 -- promise each other of them. A call with a point that is held changes nothing (proofs/Held.antt). No public contract cites these: nothing here needs to be
 -- believed. Definitions only.
-use Rattle.std.specs.Prelude.{◌≡◌, Bool, true, ◌&&◌, cond, List, [], ◌∷◌, ℕ, suc, ◌+◌, ◌≤◌, ◌%◌, length, drop, Float}
+use Rattle.std.specs.Prelude.{◌≡◌, Bool, true, ◌&&◌, cond, List, [], ◌∷◌, ℕ, suc, ◌+◌, ◌<◌, ◌≤◌, ◌%◌, Option, None, Some, length, drop, Float}
 use Rattle.std.specs.Float.Ieee.{le}
 use Rattle.consts.specs.Constants.{PI, NEG-PI}
 use Rattle.consts.specs.Refusal.{given}
@@ -52,6 +52,11 @@ pub record HeldUntil (l : List Float) (first : ℕ) (q : Rect) (r : ℕ) : Type 
   pub from : first ≤ r
   pub up_to : r ≤ length l
   pub whole : r % 2 ≡ 0
+
+-- r is a number to go on from, where a point is left; where there is none, the calls that are left change nothing
+abbrev pub Beyond : List Float → ℕ → Rect → Option ℕ → Type 0
+Beyond l first q None = HeldUntil l first q (length l)
+Beyond l first q (Some r) = HeldUntil l first q r × (r < length l)
 
 -- the calls up to the number i have been made: the box is q, and so many were refused; with those that are left they come to the whole
 pub record SoFar (l : List Float) (start q : Rect) (refused i : ℕ) : Type 0 where

@@ -1,15 +1,17 @@
 -- Growth by a list of points and the running box by value: what each answers, with the refusals in document 01's order. The box is that of RunningBox.antt.
 -- Definitions only; what they mean is in proofs/Promises.antt.
-use Rattle.std.specs.Prelude.{cond, List, ℕ, length, Float}
+use Rattle.std.specs.Prelude.{cond, List, ℕ, length, Float, Result, Ok, Err}
+use Rattle.consts.specs.declared.refusal.Refusal.{Refusal}
 use Rattle.consts.specs.Refusal.{number, accepted, bad_list, given}
 use Rattle.s2.specs.declared.latlng.LatLng.{LatLng}
 use Rattle.s2.specs.declared.rect.Rect.{Rect}
 use Rattle.s2.specs.declared.rect.Answer.{Answer}
 use Rattle.s2.specs.Reading.{as_read, read_one}
-use Rattle.s2.specs.Answers.{rect_answer, rectangle}
+use Rattle.s2.specs.Answers.{rect_answer, rectangle, grown_of}
 use Rattle.entries.specs.Lists.{whole}
 use Rattle.lists.specs.Points.{points_of}
 use Rattle.lists.specs.Refused.{first_bad}
+use Rattle.growth.specs.declared.track.Run.{Run}
 use Rattle.growth.specs.declared.track.RunningAnswer.{RunningAnswer}
 use Rattle.growth.specs.RunningBox.{running, accepted_of}
 
@@ -38,6 +40,11 @@ ran_by r ps = record { refusal = number accepted; accepted = length (accepted_of
 -- no call at all was made
 abbrev pub no_calls : Answer → RunningAnswer
 no_calls a = record { refusal = a.refusal; accepted = 0; value = a.value }
+
+-- the answer that a run's result stands for
+abbrev pub ran_of : Rect → Result Run Refusal → RunningAnswer
+ran_of r (Ok run) = record { refusal = number accepted; accepted = run.accepted; value = run.value }
+ran_of r (Err w) = no_calls (grown_of r (Err w))
 
 unfoldable pub ran : Rect → List Float → RunningAnswer
 ran r l = given (start_of r l).refusal (ran_by r (points_of l)) (no_calls (start_of r l))

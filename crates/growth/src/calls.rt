@@ -2,9 +2,9 @@
 // running box are both made of them. Most points of a track are held already and are passed over.
 ghost use Rattle.std.specs.Prelude.{◌≡◌};
 ghost use Rattle.s2.specs.Zone.{at};
-ghost use Rattle.growth.specs.Devices.{is_on, is_held, Growing, HeldUntil, AfterCalls};
+ghost use Rattle.growth.specs.Devices.{is_on, is_held, Growing, Beyond, AfterCalls};
 
-use consts::{ACCEPTED, NEG_PI, PI};
+use consts::{NEG_PI, PI};
 use lists::read_point_at;
 use s1::interval::Interval as Circle;
 use s2::rect::Rect;
@@ -18,6 +18,7 @@ pub(crate) struct Called {
 }
 
 // Whether the arc, which is not EMPTY, holds the longitude; the longitude is then of size at most PI.
+#[tactic(auto, unfolding(crate::specs::Devices::is_on))]
 fn is_on(i: Circle, p: f64) -> bool
     ensures { result ≡ is_on i p }
 {
@@ -31,48 +32,41 @@ fn is_on(i: Circle, p: f64) -> bool
 }
 
 // Whether the box holds the point already, so that a call with it changes nothing.
+#[tactic(auto, unfolding(crate::specs::Devices::is_held))]
 fn is_held(q: Rect, lat: f64, lng: f64) -> bool
     ensures { result ≡ is_held q (at lat lng) }
 {
     (q.lat.lo <= lat) & (lat <= q.lat.hi) & is_on(q.lng, lng)
 }
 
-// The first point from the number first on that the box does not hold already.
-fn held_until(points: &[f64], first: usize, q: Rect) -> usize
+// The first point from the number first on that the box does not hold already, if there is one.
+fn beyond(points: &[f64], first: usize, q: Rect) -> Option<usize>
     requires { Growing points.now first q }
-    ensures { HeldUntil points.now first q result }
+    ensures { Beyond points.now first q result }
 {
-    let n = points.len();
-    let mut i = first;
-    while i < n {
+    for i in (first..points.len()).step_by(2) {
         if !is_held(q, points[i], points[i + 1]) {
-            return i;
+            return Some(i);
         }
-        i += 2;
     }
-    i
+    None
 }
 
-// The box after a call with each of the whole points. A bad point is counted, and changes nothing.
+// The box after a call with each of the whole points. A bad point is counted, and changes nothing. (One
+// loop that tests each point and makes its call takes a fifth more instructions a point that is held.)
 pub(crate) fn calls(start: Rect, points: &[f64]) -> Called
     requires { Growing points.now 0 start }
     ensures { AfterCalls points.now start result }
 {
-    let n = points.len();
     let mut q = start;
     let mut refused = 0;
-    let mut i = 0;
-    while i < n {
-        i = held_until(points, i, q);
-        if i < n {
-            let p = read_point_at(points, i);
-            i += 2;
-            if p.refusal == ACCEPTED {
-                q = zone::add(q, p.value);
-            } else {
-                refused += 1;
-            }
+    let mut next = 0;
+    while let Some(i) = beyond(points, next, q) {
+        match read_point_at(points, i) {
+            Ok(p) => q = zone::add(q, p),
+            Err(_) => refused += 1,
         }
+        next = i + 2;
     }
     Called { refused, value: q }
 }

@@ -9,4 +9,4 @@ mod start;
 mod track;
 
 pub use growth::grow;
-pub use track::{RunningAnswer, running};
+pub use track::{Run, RunningAnswer, running};

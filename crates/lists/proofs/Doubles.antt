@@ -16,8 +16,8 @@ use Rattle.consts.specs.Reading.{in_reach}
 use Rattle.s1.specs.Circle as circle
 use Rattle.s2.specs.declared.latlng.LatLng.{LatLng}
 use Rattle.s2.specs.declared.rect.Rect.{Rect}
-use Rattle.s2.specs.declared.reading.One.{One}
-use Rattle.s2.specs.declared.reading.Pair.{Pair}
+use Rattle.s2.specs.Reading.{One}
+use Rattle.s2.specs.Reading.{Pair}
 use Rattle.s2.specs.Zone.{is_valid, valid_latitudes, is_lat_lng}
 use Rattle.s2.specs.Reading.{rect_in_reach, read_point}
 use Rattle.s2.specs.Places.{Doubles, DoublePoint, Valid, ValidPoint}

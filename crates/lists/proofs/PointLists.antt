@@ -6,6 +6,7 @@ use native.Mathlib.Nat.{not-suc-le-zero}
 use native.Mathlib.Numerals.{add-one}
 use native.Mathlib.Omega.{arith}
 use lib.ListN.{length, take, drop, get_or, get_or-eq_default}
+use Rattle.std.proofs.lemmas.List.{get_or-drop}
 use lib.Seq.{drop-cons, drop-length, drop-nil, take-nil}
 use lib.Ieee.{Float, nan}
 use Rattle.s2.specs.declared.latlng.LatLng.{LatLng}
@@ -27,6 +28,13 @@ none_left l = rw (drop-length l) refl
 -- past the end there is no number
 pub past_end : (l : List Float) (i : ℕ) → length l ≤ i → point_at l i ≡ at nan nan
 past_end l i h = rw (get_or-eq_default l nan h, get_or-eq_default l nan {n = i + 1} (omega arith)) refl
+
+-- the point that what is left begins with
+pub point_from : (l : List Float) (i : ℕ) → at (get_or (drop i l) 0 nan) (get_or (drop i l) 1 nan) ≡ point_at l i
+point_from l i = rw (get_or-drop i l 0 nan, get_or-drop i l 1 nan, none i) refl
+  where
+    none : (i : ℕ) → i + 0 ≡ i
+    none i = omega arith
 
 -- ---- lengths
 pub length-points : (l : List Float) → length (points_of l) ≡ length l / 2

@@ -20,11 +20,10 @@ use Rattle.s2.specs.Refusals.{RectReason}
 use Rattle.s2.specs.Places.{Valid, ValidPoint, Doubles, DoublePoint}
 use Rattle.s2.proofs.Readings.{point-bad}
 use Rattle.s2.proofs.Refusals.{number-when, own-number}
-use Rattle.entries.specs.declared.records.First.{First}
 use Rattle.entries.specs.Lists.{All, whole}
 use Rattle.lists.specs.Rects.{rects_of, numbers_of, put_rect, as_read_all}
 use Rattle.lists.specs.Points.{points_of, lat_lngs_of}
-use Rattle.entries.specs.First.{first_of}
+use Rattle.entries.specs.First.{First, first_of}
 use Rattle.lists.specs.Refused.{of_rect, of_point, first_refused, first_bad}
 use Rattle.entries.specs.Inputs.{Form, Items, Fault, input_of}
 use Rattle.entries.proofs.Lengths.{not-whole-when}

@@ -9,6 +9,7 @@ use native.Mathlib.Numerals.{add-one}
 use native.Mathlib.Omega.{arith}
 use borrow.Author.Tests.{le-leb, lt-leb}
 use lib.ListN.{length, take, drop, get_or, set, length-append, get_or-eq_default}
+use Rattle.std.proofs.lemmas.List.{get_or-drop}
 use lib.Seq.{drop-cons, drop-length, drop-nil, take-nil, sets, sets-eq, length-sets, take_at, length-take-le}
 use lib.Dec.{leb}
 use lib.Ieee.{Float, nan}
@@ -46,6 +47,14 @@ pub past_end : (l : List Float) (i : ℕ) → length l ≤ i → rect_at l i ≡
 past_end l i h =
     rw (get_or-eq_default l nan h, get_or-eq_default l nan {n = i + 1} (omega arith), get_or-eq_default l nan {n = i + 2} (omega arith), get_or-eq_default l nan {n = i + 3} (omega arith))
     refl
+
+-- the rectangle that what is left begins with
+pub rect_from : (l : List Float) (i : ℕ)
+    → box (line.ends (get_or (drop i l) 0 nan) (get_or (drop i l) 1 nan)) (circle.ends (get_or (drop i l) 2 nan) (get_or (drop i l) 3 nan)) ≡ rect_at l i
+rect_from l i = rw (get_or-drop i l 0 nan, get_or-drop i l 1 nan, get_or-drop i l 2 nan, get_or-drop i l 3 nan, none i) refl
+  where
+    none : (i : ℕ) → i + 0 ≡ i
+    none i = omega arith
 
 -- ---- lengths
 pub length-rects : (l : List Float) → length (rects_of l) ≡ length l / 4
@@ -224,3 +233,11 @@ pub read_again : (l : List Rect) → All (λ r. as_read r ≡ r) l → as_read_a
 unfolding as_read_all
 read_again [] a = refl
 read_again (r ∷ l) a = rw (a.0, read_again l a.1) refl
+
+-- the names that src/ cites
+pub no_room : (i : ℕ) (r : Rect) (l : List Float) → length l < i + 4 → put_rect i r l ≡ l
+no_room = no-room
+
+pub put_stores : (i : ℕ) (r : Rect) (l : List Float) → i + 4 ≤ length l
+    → put_rect i r l ≡ set (set (set (set l i r.lat.lo) (i + 1) r.lat.hi) (i + 2) r.lng.lo) (i + 3) r.lng.hi
+put_stores = put-stores

@@ -7,7 +7,7 @@ use lib.Dec.{eqb}
 use lib.Ieee.{Float, inf}
 use Rattle.consts.specs.Answer.{ZERO, told}
 use Rattle.r1.specs.declared.interval.Interval.{Interval}
-use Rattle.r1.specs.declared.interval.Hausdorff.{Hausdorff}
+use Rattle.r1.specs.Answers.{Hausdorff}
 use Rattle.r1.specs.declared.interval.Distance.{Distance}
 use Rattle.r1.specs.declared.interval.Distance.TheVariants.{Of, Unbounded}
 use Rattle.r1.specs.Reading.{read_two}

@@ -18,7 +18,7 @@ use Rattle.consts.specs.Answer.{ZERO, told}
 use Rattle.consts.proofs.Readings.{plain-plain}
 use Rattle.r1.specs.declared.interval.Interval.{Interval}
 use Rattle.r1.specs.declared.interval.Answer.{Answer}
-use Rattle.r1.specs.declared.interval.Hausdorff.{Hausdorff}
+use Rattle.r1.specs.Answers.{Hausdorff}
 use Rattle.r1.specs.Line as line
 use Rattle.r1.specs.Line.{EMPTY, is_empty, farthest, distance_of, directed_hausdorff_distance}
 use Rattle.r1.specs.Reading.{plain_ends, NoMinusEnds}

@@ -6,3 +6,4 @@ pub mod Places
 pub mod Distances
 pub mod Refusals
 pub mod Promises
+pub mod Determined

@@ -13,7 +13,7 @@ use Rattle.consts.proofs.Decisions.{decides}
 use Rattle.consts.proofs.Readings.{plain-plain}
 use Rattle.r1.specs.declared.interval.Interval.{Interval}
 use Rattle.r1.specs.declared.interval.Answer.{Answer}
-use Rattle.r1.specs.declared.interval.Hausdorff.{Hausdorff}
+use Rattle.r1.specs.Answers.{Hausdorff}
 use Rattle.r1.specs.declared.interval.Distance.TheVariants.{Of, Unbounded}
 use Rattle.r1.specs.Line as line
 use Rattle.r1.specs.Line.{ends, EMPTY, distance_of}

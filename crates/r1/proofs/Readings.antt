@@ -118,3 +118,12 @@ and-fails false b p q = (λ h. inl (p.0 refl), λ h. refl)
 
 pub out-fails : (i : Interval) → (both_in i ≡ false) ↔ OutOfReach i
 out-fails i = and-fails (in_reach i.lo) (in_reach i.hi) (λ h. h, λ h. h) (λ h. h, λ h. h)
+
+-- no interval is refused as a point is
+pub no_bad_point : (i : Interval) → eqb (read_one i).refusal 3 ≡ false
+unfolding read_one
+no_bad_point i = go (in_reach i.lo && in_reach i.hi)
+  where
+    go : (t : Bool) → eqb (cond t (number accepted) (number out_of_reach)) 3 ≡ false
+    go true = refl
+    go false = refl

@@ -15,7 +15,7 @@ use Rattle.consts.specs.Reading.{in_reach, read_number}
 use Rattle.consts.proofs.Refusals.{chosen, chosen-in-turn, given-chosen, given-in-turn}
 use Rattle.r1.specs.declared.interval.Interval.{Interval}
 use Rattle.r1.specs.declared.interval.Answer.{Answer}
-use Rattle.r1.specs.declared.interval.Hausdorff.{Hausdorff}
+use Rattle.r1.specs.Answers.{Hausdorff}
 use Rattle.r1.specs.Reading.{read_one, read_two, read_with}
 use Rattle.r1.specs.Answers.{empty_under, zero_distance, add}
 use Rattle.r1.specs.Places.{OutOfReach}

@@ -1,15 +1,15 @@
 -- What each operation on line intervals answers, for any numbers whatever: its refusal number (Reading.antt), and beside it what Line.antt says of
 -- the operands as they were read, or the result that document 01 states for a refusal. Definitions only.
-use Rattle.std.specs.Prelude.{◌≡◌, ℕ, Float}
+use Rattle.std.specs.Prelude.{◌≡◌, cond, ℕ, eqb, Float, Result, Ok, Err}
+use Rattle.consts.specs.declared.refusal.Refusal.{Refusal}
 use Rattle.consts.specs.declared.answer.YesNo.{YesNo}
 use Rattle.consts.specs.declared.answer.Number.{Number}
 use Rattle.consts.specs.Constants.{EPSILON}
-use Rattle.consts.specs.Refusal.{Reason, number, accepted, bad_point, bad_margin, first_refusal, given, GivenExactly, GivenInTurn}
+use Rattle.consts.specs.Refusal.{Reason, number, accepted, bad_point, bad_margin, code, first_refusal, given, GivenExactly, GivenInTurn}
 use Rattle.consts.specs.Answer.{ZERO, test, told}
 use Rattle.consts.specs.Reading.{read_number}
 use Rattle.r1.specs.declared.interval.Interval.{Interval}
 use Rattle.r1.specs.declared.interval.Answer.{Answer}
-use Rattle.r1.specs.declared.interval.Hausdorff.{Hausdorff}
 use Rattle.r1.specs.declared.interval.Distance.{Distance}
 use Rattle.r1.specs.declared.interval.Distance.TheVariants.{Of}
 use Rattle.r1.specs.Reading.{read_one, read_two, read_with}
@@ -22,6 +22,16 @@ line_answer i = record { refusal = number accepted; value = i }
 -- a refused interval is the standard empty
 abbrev pub empty_under : ℕ → Answer
 empty_under n = record { refusal = n; value = EMPTY }
+
+-- the answer that a result stands for
+abbrev pub interval_of : Result Interval Refusal → Answer
+interval_of (Ok i) = line_answer i
+interval_of (Err r) = empty_under (code r)
+
+-- the answer that growth's result stands for: refused for the point, it is the interval as it was handed in
+abbrev pub grown_of : Interval → Result Interval Refusal → Answer
+grown_of i (Ok o) = line_answer o
+grown_of i (Err r) = cond (eqb (code r) (number bad_point)) (record { refusal = code r; value = i }) (empty_under (code r))
 
 -- the answer i, where the refusal number is 0
 abbrev pub interval : ℕ → Interval → Answer
@@ -109,12 +119,22 @@ approx_eq_by i o e =
     let y = read_number e (number bad_margin) in
     test (first_refusal x.refusal y.refusal) (line.approx_eq_by x.left x.right y.value)
 
+-- a distance as an answer
+pub record Hausdorff : Type 0 where
+  pub refusal : ℕ
+  pub value : Distance
+
 abbrev pub distance_answer : Distance → Hausdorff
 distance_answer d = record { refusal = number accepted; value = d }
 
 -- a refused distance is zero
 abbrev pub zero_distance : ℕ → Hausdorff
 zero_distance n = record { refusal = n; value = Of ZERO }
+
+-- the answer that a result stands for
+abbrev pub distance_answer_of : Result Distance Refusal → Hausdorff
+distance_answer_of (Ok d) = distance_answer d
+distance_answer_of (Err r) = zero_distance (code r)
 
 -- the case that is answered, with its refusal number
 unfoldable pub directed_hausdorff_distance : Interval → Interval → Hausdorff

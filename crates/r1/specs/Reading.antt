@@ -4,9 +4,6 @@ use Rattle.std.specs.Prelude.{◌&&◌, cond, ℕ, Float}
 use Rattle.consts.specs.Refusal.{number, accepted, out_of_reach, first_refusal}
 use Rattle.consts.specs.Reading.{in_reach, plain, NoMinus, read_number}
 use Rattle.r1.specs.declared.interval.Interval.{Interval}
-use Rattle.r1.specs.declared.reading.One.{One}
-use Rattle.r1.specs.declared.reading.Two.{Two}
-use Rattle.r1.specs.declared.reading.With.{With}
 
 -- both ends with negative zero read as zero
 abbrev pub plain_ends : Interval → Interval
@@ -15,6 +12,23 @@ plain_ends i = record { lo = plain i.lo; hi = plain i.hi }
 -- neither end is a negative zero
 abbrev pub NoMinusEnds : Interval → Type 0
 NoMinusEnds i = NoMinus i.lo × NoMinus i.hi
+
+-- an interval as it is read, and the refusal number that it is read under
+pub record One : Type 0 where
+  pub refusal : ℕ
+  pub value : Interval
+
+-- two intervals
+pub record Two : Type 0 where
+  pub refusal : ℕ
+  pub left : Interval
+  pub right : Interval
+
+-- an interval and a number
+pub record With : Type 0 where
+  pub refusal : ℕ
+  pub value : Interval
+  pub number : Float
 
 unfoldable pub read_one : Interval → One
 read_one i = record { refusal = cond (in_reach i.lo && in_reach i.hi) (number accepted) (number out_of_reach); value = plain_ends i }

@@ -24,6 +24,7 @@ ghost use Rattle.r1.specs.Line.{directed_hausdorff_distance, add, eq};
 use crate::interval::{Distance, Interval};
 
 // Does the work of Interval::from_point_pair on operands that have been read.
+#[tactic(auto, unfolding(crate::specs::Line::from_point_pair))]
 pub fn from_point_pair(p1: f64, p2: f64) -> Interval
     ensures { result ≡ from_point_pair p1 p2 }
 {
@@ -35,6 +36,7 @@ pub fn from_point_pair(p1: f64, p2: f64) -> Interval
 }
 
 // Does the work of Interval::is_empty on operands that have been read.
+#[tactic(auto, unfolding(crate::specs::Line::is_empty))]
 pub fn is_empty(i: Interval) -> bool
     ensures { result ≡ is_empty i }
 {
@@ -42,6 +44,7 @@ pub fn is_empty(i: Interval) -> bool
 }
 
 // Does the work of Interval::center on operands that have been read.
+#[tactic(auto, unfolding(crate::specs::Line::center))]
 pub fn center(i: Interval) -> f64
     ensures { result ≡ center i }
 {
@@ -49,6 +52,7 @@ pub fn center(i: Interval) -> f64
 }
 
 // Does the work of Interval::len on operands that have been read.
+#[tactic(auto, unfolding(crate::specs::Line::len))]
 pub fn len(i: Interval) -> f64
     ensures { result ≡ len i }
 {
@@ -56,6 +60,7 @@ pub fn len(i: Interval) -> f64
 }
 
 // Does the work of Interval::contains on operands that have been read.
+#[tactic(auto, unfolding(crate::specs::Line::contains))]
 pub fn contains(i: Interval, p: f64) -> bool
     ensures { result ≡ contains i p }
 {
@@ -63,6 +68,7 @@ pub fn contains(i: Interval, p: f64) -> bool
 }
 
 // Does the work of Interval::contains_interval on operands that have been read.
+#[tactic(auto, unfolding(crate::specs::Line::contains_interval))]
 pub fn contains_interval(i: Interval, oi: Interval) -> bool
     ensures { result ≡ contains_interval i oi }
 {
@@ -70,6 +76,7 @@ pub fn contains_interval(i: Interval, oi: Interval) -> bool
 }
 
 // Does the work of Interval::interior_contains on operands that have been read.
+#[tactic(auto, unfolding(crate::specs::Line::interior_contains))]
 pub fn interior_contains(i: Interval, p: f64) -> bool
     ensures { result ≡ interior_contains i p }
 {
@@ -77,6 +84,7 @@ pub fn interior_contains(i: Interval, p: f64) -> bool
 }
 
 // Does the work of Interval::interior_contains_interval on operands that have been read.
+#[tactic(auto, unfolding(crate::specs::Line::interior_contains_interval))]
 pub fn interior_contains_interval(i: Interval, oi: Interval) -> bool
     ensures { result ≡ interior_contains_interval i oi }
 {
@@ -97,6 +105,7 @@ pub fn intersects(i: Interval, oi: Interval) -> bool
 }
 
 // Does the work of Interval::interior_intersects on operands that have been read.
+#[tactic(auto, unfolding(crate::specs::Line::interior_intersects))]
 pub fn interior_intersects(i: Interval, oi: Interval) -> bool
     ensures { result ≡ interior_intersects i oi }
 {
@@ -104,6 +113,7 @@ pub fn interior_intersects(i: Interval, oi: Interval) -> bool
 }
 
 // Does the work of Interval::intersection on operands that have been read.
+#[tactic(auto, unfolding(crate::specs::Line::intersection))]
 pub fn intersection(i: Interval, other: Interval) -> Interval
     ensures { result ≡ intersection i other }
 {
@@ -114,6 +124,7 @@ pub fn intersection(i: Interval, other: Interval) -> Interval
 }
 
 // Does the work of Interval::clamp_point on operands that have been read.
+#[tactic(auto, unfolding(crate::specs::Line::clamp_point))]
 pub fn clamp_point(i: Interval, p: f64) -> f64
     ensures { result ≡ clamp_point i p }
 {
@@ -121,6 +132,7 @@ pub fn clamp_point(i: Interval, p: f64) -> f64
 }
 
 // Does the work of Interval::expanded on operands that have been read.
+#[tactic(auto, unfolding(crate::specs::Line::expanded))]
 pub fn expanded(i: Interval, margin: f64) -> Interval
     ensures { result ≡ expanded i margin }
 {
@@ -133,6 +145,7 @@ pub fn expanded(i: Interval, margin: f64) -> Interval
 }
 
 // Does the work of Interval::union on operands that have been read.
+#[tactic(auto, unfolding(crate::specs::Line::union))]
 pub fn union(i: Interval, other: Interval) -> Interval
     ensures { result ≡ union i other }
 {
@@ -148,6 +161,7 @@ pub fn union(i: Interval, other: Interval) -> Interval
 }
 
 // Does the work of Interval::approx_eq_by on operands that have been read.
+#[tactic(auto, unfolding(crate::specs::Line::approx_eq_by))]
 pub fn approx_eq_by(i: Interval, other: Interval, max_error: f64) -> bool
     ensures { result ≡ approx_eq_by i other max_error }
 {
@@ -161,6 +175,7 @@ pub fn approx_eq_by(i: Interval, other: Interval, max_error: f64) -> bool
 }
 
 // Does the work of Interval::directed_hausdorff_distance on operands that have been read.
+#[tactic(auto, unfolding(crate::specs::Line::directed_hausdorff_distance))]
 pub fn directed_hausdorff_distance(i: Interval, other: Interval) -> Distance
     ensures { result ≡ directed_hausdorff_distance i other }
 {
@@ -174,6 +189,7 @@ pub fn directed_hausdorff_distance(i: Interval, other: Interval) -> Distance
 }
 
 // Does the work of Interval::add on operands that have been read.
+#[tactic(auto, unfolding(crate::specs::Line::add))]
 pub fn add(i: Interval, p: f64) -> Interval
     ensures { result ≡ add i p }
 {
@@ -190,6 +206,7 @@ pub fn add(i: Interval, p: f64) -> Interval
 }
 
 // Does the work of Interval::eq on operands that have been read.
+#[tactic(auto, unfolding(crate::specs::Line::eq))]
 pub fn eq(i: Interval, other: Interval) -> bool
     ensures { result ≡ eq i other }
 {

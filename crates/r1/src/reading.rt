@@ -1,88 +1,39 @@
-// How the operands of a line interval's operations are read, in the order of document 01: the
-// intervals from left to right, then a point, a margin or an error. Zeros are read on the way.
-ghost use Rattle.std.specs.Prelude.{◌≡◌};
-ghost use Rattle.r1.specs.Reading.{read_one, read_two, read_with};
+// How an operand of a line interval's operations is read: its zeros are, and a number out of reach refuses it.
+// Operands are read in the order of document 01: the intervals from left to right, then a point, a margin or an
+// error (`consts::read_margin`). The first that is refused decides.
+ghost use Rattle.std.specs.Prelude.{◌≡◌, IfOk, IfErr};
+ghost use Rattle.consts.specs.Reading.{read_number};
+ghost use Rattle.consts.specs.Refusal.{number, bad_point, refusal_of};
+ghost use Rattle.r1.specs.Reading.{read_one};
 
 use crate::interval::Interval;
-use consts::{ACCEPTED, OUT_OF_REACH};
-
-// An interval as it is read.
-#[derive(Clone, Copy)]
-pub struct One {
-    pub refusal: u8,
-    pub value: Interval,
-}
-
-// Two intervals as they are read.
-#[derive(Clone, Copy)]
-pub struct Two {
-    pub refusal: u8,
-    pub left: Interval,
-    pub right: Interval,
-}
-
-// An interval and a number as they are read.
-#[derive(Clone, Copy)]
-pub struct With {
-    pub refusal: u8,
-    pub value: Interval,
-    pub number: f64,
-}
+use consts::Refusal;
 
 // Reads an interval: every operation on one comes through here.
 // Laws: Readings.one_in, Readings.holds_plain, Promises.one-interval.
 // Ruled out: of [-0, 1]: [-0, 1]; of [NaN, 1]: under 0.
-pub fn read_one(i: Interval) -> One
-    ensures { result ≡ read_one i }
+#[tactic(auto, unfolding(crate::specs::Reading::read_one))]
+pub fn read_one(i: Interval) -> Result<Interval, Refusal>
+    ensures refusal { refusal_of result ≡ (read_one i).refusal }
+    ensures value { IfOk result (λ v. v ≡ (read_one i).value) }
 {
-    let lo = consts::zero_read(i.lo);
-    let hi = consts::zero_read(i.hi);
-    let value = Interval { lo, hi };
     if consts::in_reach(i.lo) & consts::in_reach(i.hi) {
-        One {
-            refusal: ACCEPTED,
-            value,
-        }
+        let lo = consts::zero_read(i.lo);
+        let hi = consts::zero_read(i.hi);
+        Ok(Interval { lo, hi })
     } else {
-        One {
-            refusal: OUT_OF_REACH,
-            value,
-        }
+        Err(Refusal::OutOfReach)
     }
 }
 
-// Reads two intervals, the left one first.
-// Laws: Readings.two_in, Promises.two-intervals.
-// Ruled out: of [0, 1] and [2, 3]: the second on the left; of [0, 1] and [NaN, 1]: under 0.
-pub fn read_two(i: Interval, o: Interval) -> Two
-    ensures { result ≡ read_two i o }
+// Reads a point.
+// Laws: Promises.interval-and-point.
+// Ruled out: of 1: 1 under 3; of the NaN: under 1, an interval's number.
+#[tactic(auto, unfolding(consts::specs::Reading::number_read, consts::specs::Reading::read_number))]
+pub fn read_point(p: f64) -> Result<f64, Refusal>
+    ensures refusal { refusal_of result ≡ (read_number p (number bad_point)).refusal }
+    ensures value { IfOk result (λ v. v ≡ (read_number p (number bad_point)).value) }
+    ensures why { IfErr result (λ e. e ≡ Refusal.BadPoint) }
 {
-    let a = read_one(i);
-    let b = read_one(o);
-    let refusal = consts::first_refusal(a.refusal, b.refusal);
-    let left = a.value;
-    let right = b.value;
-    Two {
-        refusal,
-        left,
-        right,
-    }
-}
-
-// Reads an interval, then a number, which out of reach has the refusal given.
-// Laws: Readings.with_in, Promises.interval-and-point, Promises.interval-and-margin.
-// Ruled out: of [0, 1] and the NaN, with 3 for a bad number: under 1; of [NaN, 1] and the NaN, with
-// 3: under 3.
-pub fn read_with(i: Interval, x: f64, refusal: u8) -> With
-    ensures { result ≡ read_with i x refusal }
-{
-    let a = read_one(i);
-    let b = consts::read_number(x, refusal);
-    let refusal = consts::first_refusal(a.refusal, b.refusal);
-    let value = a.value;
-    With {
-        refusal,
-        value,
-        number: b.value,
-    }
+    consts::read_number(p, Refusal::BadPoint)
 }

@@ -10,9 +10,13 @@ use lib.ListN.{length, get_or}
 use lib.Dec.{T, leb, eqb}
 use lib.Ieee.{nan, binary64, fits, nan_bits, of_bits}
 use lib.Ieee.Bits.{of_bits-fits}
+use Rattle.std.specs.Prelude.{Ok, Err, IfOk}
+use Rattle.std.specs.Int.{w64, from_le_bytes}
 use Rattle.order.proofs.Ranks.{and_l, and_r, and-off}
 use Rattle.bits.specs.Pattern.{of_pattern}
-use Rattle.consts.specs.Refusal.{number, accepted, bad_record, first_refusal}
+use Rattle.consts.specs.declared.refusal.Refusal.{Refusal}
+use Rattle.consts.specs.Refusal.{number, accepted, bad_record, refusal_of, first_refusal}
+use Rattle.consts.proofs.Codes.{refuses, same_code}
 use Rattle.s2.specs.declared.rect.Rect.{Rect}
 use Rattle.s2.specs.Places.{Valid}
 use Rattle.s2.specs.Reading.{as_read, read_one}
@@ -22,9 +26,7 @@ use Rattle.lists.specs.Rects.{rects_of, numbers_of, as_read_all}
 use Rattle.entries.specs.First.{first_number}
 use Rattle.lists.proofs.Doubles.{all_valid}
 use Rattle.lists.proofs.RectLists.{read_all}
-use Rattle.record.specs.declared.record.Record.{Record}
-use Rattle.record.specs.declared.record.Record.TheVariants.{Rectangle, Refused}
-use Rattle.record.specs.Records.{is_mark, word_at, double_at, whole_record, rect_of, number_of, values_of, record_number, record_values, IsRecord}
+use Rattle.record.specs.Records.{Record, is_mark, joined, word_at, double_at, whole_record, rect_of, number_of, values_of, record_number, record_values, IsRecord}
 
 -- ---- a whole record
 pub whole_long : (s : List ℕ) → whole_record s ≡ true → 34 ≤ length s
@@ -36,6 +38,10 @@ unfolding whole_record is_mark
 whole-mark s e =
     let m = and_r (leb 34 (length s)) _ e in
     (eqb-true (get_or s 0 0) 0x52 (and_l _ _ m), eqb-true (get_or s 1 0) 0x31 (and_r (eqb (get_or s 0 0) 0x52) _ m))
+
+-- its eight bytes are one word, as std joins them
+pub joined_is : (a b c d e f g h : ℕ) → from_le_bytes w64 (a ∷ b ∷ c ∷ d ∷ e ∷ f ∷ g ∷ h ∷ []) ≡ joined a b c d e f g h
+joined_is a b c d e f g h = omega arith
 
 -- ---- its number
 pub short-refused : (s : List ℕ) → length s < 34 → number_of s ≡ number bad_record
@@ -58,6 +64,16 @@ taken-values s h = simp (eq-eqb (number_of s) 0 h)
 pub no-values : (s : List ℕ) → (number_of s ≡ number accepted → ⊥) → values_of s ≡ []
 unfolding values_of
 no-values s h = simp (ne_eqb (number_of s) 0 h)
+
+-- a whole one is what its rectangle is read as
+pub is_read : (s : List ℕ) (x : Record) {r : Rect} → whole_record s ≡ true → r ≡ rect_of s
+    → refusal_of x ≡ (read_one r).refusal → IfOk x (λ v. v ≡ (read_one r).value) → IsRecord s x
+unfolding number_of values_of record_number record_values read_one
+is_read s x {r} w e n v = subst (λ (o : Rect). refusal_of x ≡ (read_one o).refusal → IfOk x (λ v. v ≡ (read_one o).value) → IsRecord s x) (sym e) (go x) n v
+  where
+    go : (x : Record) → refusal_of x ≡ (read_one (rect_of s)).refusal → IfOk x (λ v. v ≡ (read_one (rect_of s)).value) → IsRecord s x
+    go (Ok o) n v = record { number_is = n ∙ sym (whole-number s w); values-are = ap (λ (o : Rect). o ∷ []) v ∙ sym (taken-values s (whole-number s w ∙ sym n)) }
+    go (Err u) n v = record { number_is = n ∙ sym (whole-number s w); values-are = sym (no-values s (λ z. refuses u (n ∙ sym (whole-number s w) ∙ z))) }
 
 -- ---- one that is taken is whole, and its rectangle valid
 pub taken-whole : (s : List ℕ) → number_of s ≡ number accepted → (whole_record s ≡ true) × ((read_one (rect_of s)).refusal ≡ number accepted)
@@ -104,7 +120,7 @@ pub record-plain : (s : List ℕ) (x : Record) → IsRecord s x → All Plain (r
 record-plain s x i = subst (All Plain) (sym i.values-are) (plain-values s)
 
 -- ---- the case that is answered
-pub is-taken : (s : List ℕ) (x : Record) (r : Rect) → IsRecord s x → x ≡ Rectangle r → (number_of s ≡ number accepted) × (values_of s ≡ r ∷ [])
+pub is-taken : (s : List ℕ) (x : Record) (r : Rect) → IsRecord s x → x ≡ Ok r → (number_of s ≡ number accepted) × (values_of s ≡ r ∷ [])
 unfolding record_number record_values
 is-taken s x r i e = (sym i.number_is ∙ ap record_number e, sym i.values-are ∙ ap record_values e)
 
@@ -112,13 +128,13 @@ first_of : Rect → List Rect → Rect
 first_of r [] = r
 first_of r (o ∷ l) = o
 
-pub taken_is : (s : List ℕ) (x : Record) (r : Rect) → IsRecord s x → x ≡ Rectangle r → as_read (rect_of s) ≡ r
+pub taken_is : (s : List ℕ) (x : Record) (r : Rect) → IsRecord s x → x ≡ Ok r → as_read (rect_of s) ≡ r
 unfolding first_of
 taken_is s x r i e = let t = is-taken s x r i e in ap (first_of r) (sym (taken-values s t.0) ∙ t.1)
 
-pub is-refused : (s : List ℕ) (x : Record) (n : ℕ) → IsRecord s x → x ≡ Refused n → number_of s ≡ number accepted → ⊥
+pub is-refused : (s : List ℕ) (x : Record) (w : Refusal) → IsRecord s x → x ≡ Err w → number_of s ≡ number accepted → ⊥
 unfolding record_values
-is-refused s x n i e h = clash (as_read (rect_of s)) (sym (taken-values s h) ∙ sym i.values-are ∙ ap record_values e)
+is-refused s x w i e h = clash (as_read (rect_of s)) (sym (taken-values s h) ∙ sym i.values-are ∙ ap record_values e)
   where
     clash : (r : Rect) → r ∷ [] ≡ [] → ⊥
     clash r e = let z : ◌≡◌ {A = ℕ} 1 0 = ap (length {A = Rect}) e in omega arith
@@ -129,7 +145,7 @@ unfolding record_number record_values
 one-record s x y p q = same x y (p.number_is ∙ sym q.number_is) (p.values-are ∙ sym q.values-are)
   where
     same : (x y : Record) → record_number x ≡ record_number y → record_values x ≡ record_values y → x ≡ y
-    same (Rectangle r) (Rectangle o) n v = cc
-    same (Rectangle r) (Refused m) n v = absurd (let z : ◌≡◌ {A = ℕ} 1 0 = ap (length {A = Rect}) v in omega arith)
-    same (Refused k) (Rectangle o) n v = absurd (let z : ◌≡◌ {A = ℕ} 0 1 = ap (length {A = Rect}) v in omega arith)
-    same (Refused k) (Refused m) n v = ap Refused n
+    same (Ok r) (Ok o) n v = cc
+    same (Ok r) (Err w) n v = absurd (let z : ◌≡◌ {A = ℕ} 1 0 = ap (length {A = Rect}) v in omega arith)
+    same (Err u) (Ok o) n v = absurd (let z : ◌≡◌ {A = ℕ} 0 1 = ap (length {A = Rect}) v in omega arith)
+    same (Err u) (Err w) n v = ap Err (same_code u w n)

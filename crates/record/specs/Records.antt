@@ -1,15 +1,14 @@
 -- One record of the stream: the mark 52 31, then lat.lo, lat.hi, lng.lo, lng.hi as little-endian doubles. Read, it is either a rectangle or a refusal:
--- document 01's number and values for the bytes, and for each case of the enum. Definitions only; what they mean is in proofs/Records.antt.
-use Rattle.std.specs.Prelude.{◌≡◌, Bool, ◌&&◌, cond, List, [], ◌∷◌, ℕ, ◌+◌, ◌*◌, length, get_or, leb, eqb, Float}
+-- document 01's number and values for the bytes, and for each case of the answer. Definitions only; what they mean is in proofs/Records.antt.
+use Rattle.std.specs.Prelude.{◌≡◌, Bool, ◌&&◌, cond, List, [], ◌∷◌, ℕ, ◌+◌, ◌*◌, length, get_or, leb, eqb, Float, Result, Ok, Err}
 use Rattle.bits.specs.Pattern.{of_pattern}
-use Rattle.consts.specs.Refusal.{number, accepted, bad_record, given}
+use Rattle.consts.specs.declared.refusal.Refusal.{Refusal}
+use Rattle.consts.specs.Refusal.{number, accepted, bad_record, code, given}
 use Rattle.r1.specs.Line as line
 use Rattle.s1.specs.Circle as circle
 use Rattle.s2.specs.declared.rect.Rect.{Rect}
 use Rattle.s2.specs.Zone.{box}
 use Rattle.s2.specs.Reading.{as_read, read_one}
-use Rattle.record.specs.declared.record.Record.{Record}
-use Rattle.record.specs.declared.record.Record.TheVariants.{Rectangle, Refused}
 
 -- the mark
 unfoldable pub is_mark : ℕ → ℕ → Bool
@@ -45,14 +44,17 @@ number_of s = cond (whole_record s) (read_one (rect_of s)).refusal (number bad_r
 unfoldable pub values_of : List ℕ → List Rect
 values_of s = given (number_of s) (as_read (rect_of s) ∷ []) []
 
--- and for each case of the enum
+-- and for each case of a record as it is read: a rectangle that can be taken, or why there is none
+abbrev pub Record : Type 0
+Record = Result Rect Refusal
+
 unfoldable pub record_number : Record → ℕ
-record_number (Rectangle r) = number accepted
-record_number (Refused n) = n
+record_number (Ok r) = number accepted
+record_number (Err w) = code w
 
 unfoldable pub record_values : Record → List Rect
-record_values (Rectangle r) = r ∷ []
-record_values (Refused n) = []
+record_values (Ok r) = r ∷ []
+record_values (Err w) = []
 
 -- what `read_record` promises of its answer x to the bytes s
 pub record IsRecord (s : List ℕ) (x : Record) : Type 0 where

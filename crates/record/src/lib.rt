@@ -4,4 +4,4 @@
 
 mod record;
 
-pub use record::{Record, is_record, number_of, read_record};
+pub use record::{is_record, read_record};

@@ -12,18 +12,16 @@ use Rattle.consts.specs.Refusal.{number, accepted, bad_list, no_room, first_refu
 use Rattle.r1.specs.declared.interval.Interval.{Interval as Line}
 use Rattle.s1.specs.declared.interval.Interval.{Interval}
 use Rattle.lists.specs.Rects.{rects_of}
-use Rattle.entries.specs.declared.records.First.{First}
 use Rattle.entries.specs.Lists.{whole}
-use Rattle.entries.specs.First.{first_of}
+use Rattle.entries.specs.First.{First, first_of}
 use Rattle.entries.proofs.FirstLaws.{none_told, none-when}
 use Rattle.lists.specs.Refused.{of_rect, first_refused}
 use Rattle.entries.proofs.Lengths as lengths
 use Rattle.lists.proofs.Doubles.{all_valid}
 use Rattle.region.specs.declared.region.Pieces.{Pieces}
-use Rattle.region.specs.declared.region.Listed.{Listed}
 use Rattle.region.specs.Region.{across}
 use Rattle.region.specs.Answers.{pieces_of, refusal_of, entry_of, answer, left, Promised}
-use Rattle.region.specs.Inside.{IsWritten, IsListed}
+use Rattle.region.specs.Inside.{Listed, IsWritten, IsListed}
 use Rattle.region.proofs.Listed.{listed-is}
 
 -- so many pieces under 0; none under the number n at the entry k

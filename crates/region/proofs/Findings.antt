@@ -12,6 +12,7 @@ use Rattle.r1.specs.Line as line
 use Rattle.s1.specs.declared.interval.Interval.{Interval}
 use Rattle.s1.specs.Circle.{FULL}
 use Rattle.lists.specs.Rects.{rects_of, as_read_all}
+use Rattle.lists.specs.Refused.{first_refused}
 use Rattle.lists.proofs.Doubles.{all_valid}
 use Rattle.arcs.specs.CommonArcs.{AreRead}
 use Rattle.arcs.specs.Clipping.{common}
@@ -24,7 +25,7 @@ use Rattle.region.specs.Answers.{pieces_of}
 use Rattle.region.specs.Inside.{IsArcs}
 use Rattle.region.proofs.Listed.{arcs-read}
 
-module _ (l : List Float) (a : Arcs) (d : List Interval) (i : IsArcs l a d) (r : a.refusal ≡ 0) where
+module _ (l : List Float) (a : Arcs) (d : List Interval) (i : IsArcs l a d) (r : first_refused (rects_of l) ≡ 0) where
   abbrev arcs : List Interval
   arcs = lngs (as_read_all (rects_of l))
 
@@ -32,7 +33,7 @@ module _ (l : List Float) (a : Arcs) (d : List Interval) (i : IsArcs l a d) (r :
   by-band : (t : Bool) → line.is_empty a.lat ≡ t → pieces_of l ≡ cond t [] (across a.lat (common arcs))
   unfolding pieces_of region
   by-band t e =
-      ap (λ (b : Line). cond (line.is_empty b) [] (across b (common arcs))) (sym (i.lat-is r)) ∙ ap (λ (t : Bool). cond t [] (across a.lat (common arcs))) e
+      ap (λ (b : Line). cond (line.is_empty b) [] (across b (common arcs))) (sym i.lat-is) ∙ ap (λ (t : Bool). cond t [] (across a.lat (common arcs))) e
 
   pub none_found : line.is_empty a.lat ≡ true → across a.lat [] ≡ pieces_of l
   unfolding across
@@ -40,14 +41,14 @@ module _ (l : List Float) (a : Arcs) (d : List Interval) (i : IsArcs l a d) (r :
 
   pub some-found : ((k : ℕ) → T (fits binary64 (get_or l k nan))) → line.is_empty a.lat ≡ false → (found : List Interval) → found ≡ met a.lng (take a.count d) → across a.lat found ≡ pieces_of l
   some-found doubles e found h =
-      ap (across a.lat) (h ∙ ap (λ (x : Interval). met x (take a.count d)) (i.lng-is r) ∙ ap (met (risen FULL arcs)) (i.is r) ∙ two-kinds arcs (read doubles))
+      ap (across a.lat) (h ∙ ap (λ (x : Interval). met x (take a.count d)) i.lng-is ∙ ap (met (risen FULL arcs)) i.is ∙ two-kinds arcs (read doubles))
       ∙ sym (by-band false e)
     where
       read : ((k : ℕ) → T (fits binary64 (get_or l k nan))) → AreRead arcs
-      read doubles = arcs-read (rects_of l) (all_valid l doubles (sym i.refusal_is ∙ r))
+      read doubles = arcs-read (rects_of l) (all_valid l doubles r)
 
   -- the two kinds have been read too
   pub both_read : ((k : ℕ) → T (fits binary64 (get_or l k nan))) → AreRead (a.lng ∷ take a.count d)
   both_read doubles =
-      subst (λ (x : Interval). AreRead (x ∷ take a.count d)) (sym (i.lng-is r))
-      (subst (λ (m : List Interval). AreRead (risen FULL arcs ∷ m)) (sym (i.is r)) (kinds-read arcs (arcs-read (rects_of l) (all_valid l doubles (sym i.refusal_is ∙ r)))))
+      subst (λ (x : Interval). AreRead (x ∷ take a.count d)) (sym i.lng-is)
+      (subst (λ (m : List Interval). AreRead (risen FULL arcs ∷ m)) (sym i.is) (kinds-read arcs (arcs-read (rects_of l) (all_valid l doubles r))))

@@ -18,7 +18,7 @@ use Rattle.r1.specs.Line as line
 use Rattle.s1.specs.declared.interval.Interval.{Interval as Circle}
 use Rattle.s2.specs.declared.place.Place.{Place}
 use Rattle.s2.specs.declared.rect.Rect.{Rect}
-use Rattle.s2.specs.declared.reading.One.{One}
+use Rattle.s2.specs.Reading.{One}
 use Rattle.s2.specs.Zone.{is_empty}
 use Rattle.s2.specs.Places.{IsPlace, Valid, holds}
 use Rattle.s2.proofs.Readings.{one_in}

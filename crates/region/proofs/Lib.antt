@@ -9,3 +9,4 @@ pub mod Refusals
 pub mod Listings
 pub mod Promises
 pub mod Examples
+pub mod Told

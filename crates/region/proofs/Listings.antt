@@ -100,11 +100,18 @@ pub record IsListed (l : List Float) (n : ℕ) (o : List Float) : Type 0 where
   pub count : n ≡ length (pieces_of l)
   pub is : take (4 * n) o ≡ numbers_of (pieces_of l)
 
+pub listed_under : (l out : List Float) (r : Pieces) (o : List Float) → whole 4 512 l ≡ true → All Valid (rects_of l) → length out ≡ 2048 → Promised l out r o
+    → r.refusal ≡ 0
+unfolding whole_length
+listed_under l out r o h v e p =
+    let k : length (pieces_of l) ≤ 512 = pieces-few l v (leb-true (length l) 2048 (and_r (eqb (length l % 4) 0) _ h)) in
+    refusal_is p ∙ accepts l (length out) h v (omega (arith, e, k))
+
 pub listing : (l out : List Float) (r : Pieces) (o : List Float) → whole 4 512 l ≡ true → All Valid (rects_of l) → length out ≡ 2048 → Promised l out r o
     → IsListed l r.count o
 unfolding whole_length
 listing l out r o h v e p =
     let k : length (pieces_of l) ≤ 512 = pieces-few l v (leb-true (length l) 2048 (and_r (eqb (length l % 4) 0) _ h)) in
-    let a = refusal_is p ∙ accepts l (length out) h v (omega (arith, e, k)) in
+    let a = listed_under l out r o h v e p in
     let c = counted p a in
     record { few = omega (arith, c, k); count = c; is = front p a }

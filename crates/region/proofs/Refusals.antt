@@ -15,9 +15,8 @@ use Rattle.s2.specs.declared.rect.Rect.{Rect}
 use Rattle.s2.specs.Zone.{EMPTY}
 use Rattle.s2.specs.Refusals.{sound, RectReason}
 use Rattle.s2.proofs.Refusals.{accepted-when, number-when, reason-number, never}
-use Rattle.entries.specs.declared.records.First.{First}
 use Rattle.entries.specs.Lists.{All, whole}
-use Rattle.entries.specs.First.{first_number, first_entry, first_of}
+use Rattle.entries.specs.First.{First, first_number, first_entry, first_of}
 use Rattle.entries.proofs.FirstLaws.{Good, IsFirst, none_told, first-told, decided}
 use Rattle.lists.specs.Rects.{rects_of}
 use Rattle.lists.specs.Refused.{of_rect}

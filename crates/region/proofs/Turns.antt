@@ -5,7 +5,6 @@ use mathlib.Core.Bool.{Bool, true, false, cond}
 use mathlib.Core.List.{List, [], ◌∷◌, ◌++◌, append_assoc, append-nil}
 use Prim.Native.Nat.{ℕ, ◌+◌, ◌<◌}
 use native.Mathlib.Numerals.{add-one}
-use native.Mathlib.Omega.{arith}
 use borrow.Author.Tests.{eq-eqb, ne_eqb}
 use lib.ListN.{length, drop, take, set}
 use lib.Seq.{take-suc-set}
@@ -22,29 +21,31 @@ use Rattle.lists.proofs.RectLists.{four, none_left}
 use Rattle.entries.specs.First.{first_number}
 use Rattle.lists.specs.Refused.{first_refused}
 use Rattle.arcs.specs.Kinds.{rises, narrowed, risen, crossing}
-use Rattle.sort.specs.Arrays.{zip}
-use Rattle.sort.proofs.Arrays.{zip_length, zip-set}
 use Rattle.region.specs.Region.{band_from, lngs}
 
-module _ (l : List Float) (i : ℕ) (h : i + 3 < length l) where
-  abbrev rest : List Rect
-  rest = rects_of (drop (i + 4) l)
+-- the rectangle that starts at i, and those from j on
+next-rect : (l : List Float) (i j : ℕ) → i + 3 < length l → j ≡ i + 4 → rects_of (drop i l) ≡ rect_at l i ∷ rects_of (drop j l)
+next-rect l i j h e = rw e (four l i h)
 
-  pub band-turn : (b new : Line) → new ≡ line.intersection b (read_one (rect_at l i)).value.lat → band_from new (as_read_all (rects_of (drop (i + 4) l))) ≡ band_from b (as_read_all (rects_of (drop i l)))
+module _ (l : List Float) (i j : ℕ) (h : i + 3 < length l) (p : j ≡ i + 4) where
+  abbrev rest : List Rect
+  rest = rects_of (drop j l)
+
+  pub band-turn : (b new : Line) → new ≡ line.intersection b (read_one (rect_at l i)).value.lat → band_from new (as_read_all (rects_of (drop j l))) ≡ band_from b (as_read_all (rects_of (drop i l)))
   unfolding band_from as_read_all read_one
   band-turn b new e =
-      ap (λ (m : Line). band_from m (as_read_all rest)) e ∙ ap (λ (r : List Rect). band_from b (as_read_all r)) (sym (four l i h))
+      ap (λ (m : Line). band_from m (as_read_all rest)) e ∙ ap (λ (r : List Rect). band_from b (as_read_all r)) (sym (next-rect l i j h p))
 
   pub refused-here : (n : ℕ) → n ≡ (read_one (rect_at l i)).refusal → (n ≡ 0 → ⊥) → first_refused (rects_of (drop i l)) ≡ n
   unfolding first_number first_refusal
   refused-here n e k =
-      ap (λ (r : List Rect). first_refused r) (four l i h)
+      ap (λ (r : List Rect). first_refused r) (next-rect l i j h p)
       ∙ ap (λ (m : ℕ). cond (eqb m 0) (first_refused rest) m) (sym e) ∙ ap (λ (t : Bool). cond t (first_refused rest) n) (ne_eqb n 0 k)
 
-  pub accepted-here : (n : ℕ) → n ≡ (read_one (rect_at l i)).refusal → n ≡ 0 → first_refused (rects_of (drop i l)) ≡ first_refused (rects_of (drop (i + 4) l))
+  pub accepted-here : (n : ℕ) → n ≡ (read_one (rect_at l i)).refusal → n ≡ 0 → first_refused (rects_of (drop i l)) ≡ first_refused (rects_of (drop j l))
   unfolding first_number first_refusal
   accepted-here n e k =
-      ap (λ (r : List Rect). first_refused r) (four l i h)
+      ap (λ (r : List Rect). first_refused r) (next-rect l i j h p)
       ∙ ap (λ (m : ℕ). cond (eqb m 0) (first_refused rest) m) (sym e) ∙ ap (λ (t : Bool). cond t (first_refused rest) n) (eq-eqb n 0 k)
 
 -- none are left
@@ -61,39 +62,37 @@ accepted-end l = ap (λ (r : List Rect). first_refused r) (none_left l)
 abbrev pub arcs_from : List Float → ℕ → List Interval
 arcs_from l i = lngs (as_read_all (rects_of (drop i l)))
 
-module _ (l : List Float) (i : ℕ) (h : i + 3 < length l) (a : Interval) (e : a ≡ (read_one (rect_at l i)).value.lng) where
-  first-arc : arcs_from l i ≡ a ∷ arcs_from l (i + 4)
+module _ (l : List Float) (i j : ℕ) (h : i + 3 < length l) (p : j ≡ i + 4) (a : Interval) (e : a ≡ (read_one (rect_at l i)).value.lng) where
+  first-arc : arcs_from l i ≡ a ∷ arcs_from l j
   unfolding lngs as_read_all read_one
-  first-arc = ap (λ (r : List Rect). lngs (as_read_all r)) (four l i h) ∙ ap (λ (x : Interval). x ∷ arcs_from l (i + 4)) (sym e)
+  first-arc = ap (λ (r : List Rect). lngs (as_read_all r)) (next-rect l i j h p) ∙ ap (λ (x : Interval). x ∷ arcs_from l j) (sym e)
 
   -- one that rises is met with those so far
   module _ (t : le a.lo a.hi ≡ true) where
-    pub risen-turn : (x new : Interval) → new ≡ narrowed x a → risen new (arcs_from l (i + 4)) ≡ risen x (arcs_from l i)
+    pub risen-turn : (x new : Interval) → new ≡ narrowed x a → risen new (arcs_from l j) ≡ risen x (arcs_from l i)
     unfolding rises risen
     risen-turn x new n =
-        ap (λ (z : Interval). risen z (arcs_from l (i + 4))) (n ∙ ap (λ (b : Bool). cond b (narrowed x a) x) (sym t)) ∙ ap (risen x) (sym first-arc)
+        ap (λ (z : Interval). risen z (arcs_from l j)) (n ∙ ap (λ (b : Bool). cond b (narrowed x a) x) (sym t)) ∙ ap (risen x) (sym first-arc)
 
-    pub taken-past : (so_far : List Interval) → so_far ++ crossing (arcs_from l (i + 4)) ≡ so_far ++ crossing (arcs_from l i)
+    pub taken-past : (so_far : List Interval) → so_far ++ crossing (arcs_from l j) ≡ so_far ++ crossing (arcs_from l i)
     unfolding rises crossing
     taken-past so_far =
-        ap (λ (b : Bool). so_far ++ cond b (crossing (arcs_from l (i + 4))) (a ∷ crossing (arcs_from l (i + 4)))) (sym t)
+        ap (λ (b : Bool). so_far ++ cond b (crossing (arcs_from l j)) (a ∷ crossing (arcs_from l j))) (sym t)
         ∙ ap (λ (z : List Interval). so_far ++ crossing z) (sym first-arc)
 
   -- one that crosses the seam is put after those so far
   module _ (f : le a.lo a.hi ≡ false) where
-    pub risen-past : (x : Interval) → risen x (arcs_from l (i + 4)) ≡ risen x (arcs_from l i)
+    pub risen-past : (x : Interval) → risen x (arcs_from l j) ≡ risen x (arcs_from l i)
     unfolding rises risen
-    risen-past x = ap (λ (b : Bool). risen (cond b (narrowed x a) x) (arcs_from l (i + 4))) (sym f) ∙ ap (risen x) (sym first-arc)
+    risen-past x = ap (λ (b : Bool). risen (cond b (narrowed x a) x) (arcs_from l j)) (sym f) ∙ ap (risen x) (sym first-arc)
 
-    pub taken-turn : (lo hi : List Float) (k : ℕ) → k < length lo → length lo ≡ length hi
-        → take (k + 1) (zip (set lo k a.lo) (set hi k a.hi)) ++ crossing (arcs_from l (i + 4)) ≡ take k (zip lo hi) ++ crossing (arcs_from l i)
+    pub taken-turn : (d : List Interval) (k : ℕ) → k < length d → take (k + 1) (set d k a) ++ crossing (arcs_from l j) ≡ take k d ++ crossing (arcs_from l i)
     unfolding rises crossing
-    taken-turn lo hi k b q =
-        ap (λ (z : List Interval). z ++ crossing (arcs_from l (i + 4)))
-        (ap (take (k + 1)) (zip-set lo hi k a.lo a.hi) ∙ ap (λ (n : ℕ). take n (set (zip lo hi) k a)) (add-one k) ∙ take-suc-set (zip lo hi) k a (omega (arith, zip_length lo hi q)))
-        ∙ append_assoc (take k (zip lo hi)) (a ∷ []) (crossing (arcs_from l (i + 4)))
-        ∙ ap (λ (b : Bool). take k (zip lo hi) ++ cond b (crossing (arcs_from l (i + 4))) (a ∷ crossing (arcs_from l (i + 4)))) (sym f)
-        ∙ ap (λ (z : List Interval). take k (zip lo hi) ++ crossing z) (sym first-arc)
+    taken-turn d k b =
+        ap (λ (z : List Interval). z ++ crossing (arcs_from l j)) (ap (λ (n : ℕ). take n (set d k a)) (add-one k) ∙ take-suc-set d k a b)
+        ∙ append_assoc (take k d) (a ∷ []) (crossing (arcs_from l j))
+        ∙ ap (λ (b : Bool). take k d ++ cond b (crossing (arcs_from l j)) (a ∷ crossing (arcs_from l j))) (sym f)
+        ∙ ap (λ (z : List Interval). take k d ++ crossing z) (sym first-arc)
 
 -- none are left
 pub risen-end : (l : List Float) (x : Interval) → x ≡ risen x (arcs_from l (length l))

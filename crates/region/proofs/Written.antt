@@ -1,19 +1,16 @@
 -- The output written turn by turn: four numbers for each piece, and what was there behind them. Assumes nothing.
-use mathlib.Core.Path.{◌≡◌, refl, sym, ap, ◌∙◌, subst}
+use mathlib.Core.Path.{◌≡◌, refl, sym, ap, ◌∙◌}
 use mathlib.Core.List.{List, [], ◌∷◌, ◌++◌}
 use Prim.Native.Nat.{ℕ, suc, ◌+◌, ◌*◌, ◌≤◌, ◌<◌}
 use native.Mathlib.Numerals.{add-one}
 use native.Mathlib.Omega.{arith}
 use lib.ListN.{length, drop, take, get_or, set}
-use lib.Seq.{length-take-le, take-suc, take_at, drop_at, drop-drop, sets-eq}
-use lib.Ieee.{Float, nan}
+use lib.Seq.{take-length, length-take-le, take-suc, take_at, drop_at, drop-drop, sets-eq}
+use lib.Ieee.{Float}
 use Rattle.r1.specs.declared.interval.Interval.{Interval as Line}
 use Rattle.s1.specs.declared.interval.Interval.{Interval}
-use Rattle.s1.specs.Circle.{ends}
 use Rattle.lists.specs.Rects.{numbers_of}
 use Rattle.region.specs.Region.{across}
-use Rattle.sort.specs.Arrays.{zip}
-use Rattle.sort.proofs.Arrays.{zip_length, zip-at}
 
 numbers-append : (b : Line) (l m : List Interval) → numbers_of (across b (l ++ m)) ≡ numbers_of (across b l) ++ numbers_of (across b m)
 unfolding numbers_of across
@@ -65,11 +62,5 @@ out_none b d o = refl
 pub out-nothing : (b : Line) (d : List Interval) (n : ℕ) (o last : List Float) → n ≡ 0 → last ≡ numbers_of (across b (take n d)) ++ drop (4 * n) o → last ≡ o
 out-nothing b d n o last e h = h ∙ ap (λ (k : ℕ). numbers_of (across b (take k d)) ++ drop (4 * k) o) e ∙ sym (out_none b d o)
 
--- the pieces in two arrays
-pub out-turn : (b : Line) (lo hi : List Float) (k : ℕ) → k < length lo → length lo ≡ length hi → (o o₀ : List Float) → o ≡ numbers_of (across b (take k (zip lo hi))) ++ drop (4 * k) o₀ → length o ≡ length o₀
-    → 4 * k + 4 ≤ length o₀
-    → set (set (set (set o (4 * k) b.lo) (4 * k + 1) b.hi) (4 * k + 2) (get_or lo k nan)) (4 * k + 3) (get_or hi k nan) ≡ numbers_of (across b (take (k + 1) (zip lo hi))) ++ drop (4 * (k + 1)) o₀
-out-turn b lo hi k h q o o₀ e f g =
-    let z : Interval = ends (get_or lo k nan) (get_or hi k nan) in
-    subst (λ (y : Interval). set (set (set (set o (4 * k) b.lo) (4 * k + 1) b.hi) (4 * k + 2) y.lo) (4 * k + 3) y.hi ≡ numbers_of (across b (take (k + 1) (zip lo hi))) ++ drop (4 * (k + 1)) o₀)
-    (zip-at lo hi k nan nan z h q) (turn-out b (zip lo hi) k z (omega (arith, zip_length lo hi q)) o o₀ e f g)
+-- the turns of the loop
+pub ruleset writing = (turn-out, take-length)

@@ -1,7 +1,8 @@
 -- What `common_region` answers for every list, and every number that it leaves in the output: the refusals in document 01's order, then
 -- the pieces as numbers. Definitions only.
-use Rattle.std.specs.Prelude.{◌≡◌, cond, List, ◌++◌, ℕ, ◌*◌, length, drop, leb, Float}
-use Rattle.consts.specs.Refusal.{number, accepted, bad_list, no_room, first_refusal, given}
+use Rattle.std.specs.Prelude.{◌≡◌, cond, List, ◌++◌, ℕ, ◌*◌, length, drop, leb, Float, Result, Ok, Err}
+use Rattle.consts.specs.Refusal.{number, accepted, bad_list, no_room, code, first_refusal, given}
+use Rattle.entries.specs.declared.records.Fault.{Fault}
 use Rattle.s2.specs.declared.rect.Rect.{Rect}
 use Rattle.entries.specs.Lists.{whole}
 use Rattle.entries.specs.First.{first_entry}
@@ -26,6 +27,11 @@ refusal_of l room =
 -- ---- the entry that is refused, counted from zero; 0 where none is, or the list is not looked into
 unfoldable pub entry_of : List Float → ℕ
 entry_of l = cond (whole 4 512 l) (first_entry of_rect (rects_of l)) 0
+
+-- what C is told of a result: how many pieces, or the fault
+abbrev pub told_pieces : Result ℕ Fault → Pieces
+told_pieces (Ok n) = record { refusal = number accepted; count = n; entry = 0 }
+told_pieces (Err f) = record { refusal = code f.refusal; count = 0; entry = f.entry }
 
 -- ---- the answer, and what is left in the output: a refusal counts no pieces and alters no number; numbers after the last piece stay
 unfoldable pub answer : List Float → ℕ → Pieces

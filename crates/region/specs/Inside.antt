@@ -1,41 +1,45 @@
 -- What the functions of this crate promise each other. Nothing here needs to be believed: it stands among the definitions only because a contract can cite
 -- nothing else, and what it comes to is what `common_region` promises (specs/Answers.antt), which is proved from it. Definitions only.
-use Rattle.std.specs.Prelude.{◌≡◌, List, ◌++◌, ℕ, ◌+◌, ◌*◌, ◌/◌, ◌%◌, ◌≤◌, ◌<◌, length, take, drop, Float}
-use Rattle.consts.specs.Refusal.{number, accepted, no_room}
+use Rattle.std.specs.Prelude.{◌≡◌, List, ◌++◌, ℕ, ◌+◌, ◌*◌, ◌/◌, ◌%◌, ◌≤◌, ◌<◌, length, take, drop, Float, Result, Ok, Err}
+use Rattle.consts.specs.declared.refusal.Refusal.{Refusal}
+use Rattle.consts.specs.Refusal.{number, accepted, no_room, code}
 use Rattle.s1.specs.declared.interval.Interval.{Interval}
 use Rattle.s1.specs.Circle.{FULL}
 use Rattle.s2.specs.declared.rect.Rect.{Rect}
 use Rattle.lists.specs.Rects.{rects_of, numbers_of, as_read_all}
-use Rattle.lists.specs.Refused.{first_refused}
 use Rattle.arcs.specs.Kinds.{risen, crossing}
 use Rattle.region.specs.declared.reading.Arcs.{Arcs}
 use Rattle.region.specs.declared.finding.Found.{Found}
-use Rattle.region.specs.declared.region.Listed.{Listed}
 use Rattle.region.specs.Region.{lngs, band, across}
 use Rattle.region.specs.Answers.{pieces_of, entry_of, Promised}
 
 -- whole rectangles, at most 512, with room for an arc of each, and for two pieces more
-pub record Room (list west east lo hi : List Float) : Type 0 where
+pub record Room (list : List Float) (arcs pieces : List Interval) : Type 0 where
   pub whole : length list % 4 ≡ 0
   pub most : length list ≤ 2048
-  pub arcs : length list ≤ 4 * length west
-  pub arcs-even : length west ≡ length east
-  pub pieces : length list + 8 ≤ 4 * length lo
-  pub pieces-even : length lo ≡ length hi
+  pub arcs-room : length list ≤ 4 * length arcs
+  pub pieces-room : length list + 8 ≤ 4 * length pieces
 
 -- the arcs of the list of numbers l: those that cross the seam are the first of d, in the list's order, and the others met
 pub record IsArcs (l : List Float) (a : Arcs) (d : List Interval) : Type 0 where
-  pub refusal_is : a.refusal ≡ first_refused (rects_of l)
-  pub lat-is : a.refusal ≡ number accepted → a.lat ≡ band (as_read_all (rects_of l))
-  pub lng-is : a.refusal ≡ number accepted → a.lng ≡ risen FULL (lngs (as_read_all (rects_of l)))
-  pub is : a.refusal ≡ number accepted → take a.count d ≡ crossing (lngs (as_read_all (rects_of l)))
+  pub lat-is : a.lat ≡ band (as_read_all (rects_of l))
+  pub lng-is : a.lng ≡ risen FULL (lngs (as_read_all (rects_of l)))
+  pub is : take a.count d ≡ crossing (lngs (as_read_all (rects_of l)))
   pub few : 4 * a.count ≤ length l
 
 -- all that was found in the list of numbers l, with the longitude pieces the first of d
 pub record IsFound (l : List Float) (f : Found) (d : List Interval) : Type 0 where
-  pub refusal_is : f.refusal ≡ first_refused (rects_of l)
-  pub is : f.refusal ≡ number accepted → across f.lat (take f.count d) ≡ pieces_of l
+  pub is : across f.lat (take f.count d) ≡ pieces_of l
   pub few : f.count ≤ length l / 4 + 1
+
+-- how many pieces are listed, or the refusal number
+pub record Listed : Type 0 where
+  pub refusal : ℕ
+  pub count : ℕ
+
+abbrev pub listed_of : Result ℕ Refusal → Listed
+listed_of (Ok n) = record { refusal = number accepted; count = n }
+listed_of (Err w) = record { refusal = code w; count = 0 }
 
 -- r of n pieces are written into room for so many numbers: all of them, or none where they do not fit
 pub record Fitted (n room r : ℕ) : Type 0 where

@@ -14,3 +14,4 @@ pub mod Closes
 pub mod Refusals
 pub mod Promises
 pub mod RestLaws
+pub mod Determined

@@ -1,18 +1,20 @@
 -- Reading the operands of a circle's operation: a valid interval is in reach, so that operands within the limits are accepted, with their zeros read,
 -- which changes no place that they hold. Assumes nothing.
 use mathlib.Core.Path.{◌≡◌, refl}
-use mathlib.Core.Bool.{true, ◌&&◌}
+use mathlib.Core.Bool.{Bool, true, false, ◌&&◌, cond}
+use lib.Dec.{eqb}
 use lib.Ieee.{Float, binary64, of_bits, lt, le, fits, is_nan}
 use Rattle.order.specs.Key.{Num}
 use Rattle.order.proofs.Ranks.{and_l, and_r, and-of}
 use Rattle.order.proofs.Facts.{lt-le, num-r, lt-not-eq}
 use Rattle.consts.specs.Constants.{PI, NEG-PI}
+use Rattle.consts.specs.Refusal.{number, accepted, out_of_reach, bad_circle}
 use Rattle.consts.specs.Reading.{in_reach}
 use Rattle.consts.proofs.Remainders.{pi-in-reach}
 use Rattle.s1.specs.declared.interval.Interval.{Interval}
 use Rattle.s1.specs.Circle.{is_valid}
 use Rattle.s1.specs.Devices.{usual}
-use Rattle.s1.specs.Reading.{on_circle}
+use Rattle.s1.specs.Reading.{on_circle, read_one}
 
 -- a double from -PI on is a number
 pub num_of : (x : Float) → fits binary64 x ≡ true → le NEG-PI x ≡ true → Num x ≡ true
@@ -48,3 +50,13 @@ usual-valid i f g h =
     let p = lt-le NEG-PI i.lo a in
     let q = lt-le NEG-PI i.hi c in
     simp (p, b, q, d, lt-not-eq NEG-PI i.lo n (num_of i.lo f p) a, lt-not-eq NEG-PI i.hi n (num_of i.hi g q) c)
+
+-- no interval is refused as a point is
+pub no_bad_point : (i : Interval) → eqb (read_one i).refusal 3 ≡ false
+unfolding read_one
+no_bad_point i = go (in_reach i.lo && in_reach i.hi) (is_valid i)
+  where
+    go : (s t : Bool) → eqb (cond s (cond t (number accepted) (number bad_circle)) (number out_of_reach)) 3 ≡ false
+    go true true = refl
+    go true false = refl
+    go false t = refl

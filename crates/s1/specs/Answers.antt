@@ -1,15 +1,16 @@
 -- What each operation on circle intervals answers, for any numbers whatever: its refusal number (Reading.antt), and beside it what Circle.antt says of
 -- the operands as they were read, or the result that document 01 states for a refusal. Definitions only.
-use Rattle.std.specs.Prelude.{true, ℕ, Float}
+use Rattle.std.specs.Prelude.{true, cond, ℕ, eqb, Float, Result, Ok, Err}
+use Rattle.consts.specs.declared.refusal.Refusal.{Refusal}
 use Rattle.consts.specs.declared.answer.YesNo.{YesNo}
 use Rattle.consts.specs.declared.answer.Number.{Number}
 use Rattle.consts.specs.Constants.{EPSILON}
-use Rattle.consts.specs.Refusal.{number, accepted, bad_margin, first_refusal, given}
+use Rattle.consts.specs.Refusal.{number, accepted, bad_point, bad_margin, code, first_refusal, given}
 use Rattle.consts.specs.Answer.{test, told}
 use Rattle.consts.specs.Reading.{plain, read_number}
 use Rattle.r1.specs.declared.interval.Interval.{Interval as Line}
 use Rattle.r1.specs.declared.interval.Answer.{Answer as LineAnswer}
-use Rattle.r1.specs.Answers.{interval as line_interval}
+use Rattle.r1.specs.Answers.{interval as line_interval, interval_of as line_interval_of}
 use Rattle.s1.specs.declared.interval.Interval.{Interval}
 use Rattle.s1.specs.declared.interval.Answer.{Answer}
 use Rattle.s1.specs.Reading.{read_one, read_ends, read_two, read_point, read_with_point, read_with_margin}
@@ -22,6 +23,20 @@ circle_answer i = record { refusal = number accepted; value = i }
 -- a refused interval is EMPTY
 abbrev pub empty_under : ℕ → Answer
 empty_under n = record { refusal = n; value = EMPTY }
+
+-- the answer that a result stands for
+abbrev pub interval_of : Result Interval Refusal → Answer
+interval_of (Ok i) = circle_answer i
+interval_of (Err r) = empty_under (code r)
+
+-- the same of a line interval
+abbrev pub line_of : Result Line Refusal → LineAnswer
+line_of r = line_interval_of r
+
+-- the answer that growth's result stands for: refused for the point, it is the interval as it was handed in
+abbrev pub grown_of : Interval → Result Interval Refusal → Answer
+grown_of i (Ok o) = circle_answer o
+grown_of i (Err r) = cond (eqb (code r) (number bad_point)) (record { refusal = code r; value = i }) (empty_under (code r))
 
 -- the answer i, where the refusal number is 0
 abbrev pub interval : ℕ → Interval → Answer

@@ -1,16 +1,13 @@
 -- How the operands of a circle interval's operations are read: in document 01's order, the intervals from left to right, each with its zeros read,
 -- under 1 where a number is out of reach and under 22 where it is not valid; then points (3), then a margin or an error (4).
 -- Definitions only; the laws are in proofs/Readings.antt.
-use Rattle.std.specs.Prelude.{Bool, ◌&&◌, cond, Float}
+use Rattle.std.specs.Prelude.{Bool, ◌&&◌, cond, ℕ, Float}
 use Rattle.std.specs.Float.Ieee.{le}
 use Rattle.consts.specs.declared.answer.Number.{Number}
 use Rattle.consts.specs.Constants.{PI, NEG-PI}
 use Rattle.consts.specs.Refusal.{number, accepted, out_of_reach, bad_circle, bad_point, bad_margin, first_refusal}
 use Rattle.consts.specs.Reading.{in_reach, plain, NoMinus, read_number}
 use Rattle.s1.specs.declared.interval.Interval.{Interval}
-use Rattle.s1.specs.declared.reading.One.{One}
-use Rattle.s1.specs.declared.reading.Two.{Two}
-use Rattle.s1.specs.declared.reading.With.{With}
 use Rattle.s1.specs.Circle.{is_valid}
 
 -- both ends with negative zero read as zero
@@ -20,6 +17,23 @@ plain_ends i = record { lo = plain i.lo; hi = plain i.hi }
 -- neither end is a negative zero
 abbrev pub NoMinusEnds : Interval → Type 0
 NoMinusEnds i = NoMinus i.lo × NoMinus i.hi
+
+-- an interval as it is read, and the refusal number that it is read under
+pub record One : Type 0 where
+  pub refusal : ℕ
+  pub value : Interval
+
+-- two intervals
+pub record Two : Type 0 where
+  pub refusal : ℕ
+  pub left : Interval
+  pub right : Interval
+
+-- an interval and a number
+pub record With : Type 0 where
+  pub refusal : ℕ
+  pub value : Interval
+  pub number : Float
 
 unfoldable pub read_one : Interval → One
 read_one i =

@@ -36,6 +36,7 @@ fn pick(t: bool, a: f64, b: f64) -> f64
 
 // Compute distance from a to b in [0,2π], in a numerically stable way.
 // Does the work of Interval::positive_distance on operands that have been read.
+#[tactic(auto, unfolding(crate::specs::Circle::positive_distance))]
 pub fn positive_distance(a: f64, b: f64) -> f64
     ensures { result ≡ positive_distance a b }
 {
@@ -44,6 +45,7 @@ pub fn positive_distance(a: f64, b: f64) -> f64
 }
 
 // Does the work of Interval::new on operands that have been read.
+#[tactic(auto, unfolding(crate::specs::Circle::new))]
 pub fn new(lo: f64, hi: f64) -> Interval
     ensures { result ≡ «new» lo hi }
 {
@@ -53,6 +55,7 @@ pub fn new(lo: f64, hi: f64) -> Interval
 }
 
 // The point with -PI written PI.
+#[tactic(auto, unfolding(crate::specs::Circle::seam))]
 fn at_seam(p: f64) -> f64
     ensures { result ≡ seam p }
 {
@@ -60,6 +63,7 @@ fn at_seam(p: f64) -> f64
 }
 
 // Does the work of Interval::from_point_pair on operands that have been read.
+#[tactic(auto, unfolding(crate::specs::Circle::from_point_pair))]
 pub fn from_point_pair(a: f64, b: f64) -> Interval
     ensures { result ≡ from_point_pair a b }
 {
@@ -72,6 +76,7 @@ pub fn from_point_pair(a: f64, b: f64) -> Interval
 }
 
 // Does the work of Interval::is_valid on operands that have been read.
+#[tactic(auto, unfolding(crate::specs::Circle::is_valid))]
 pub fn is_valid(i: Interval) -> bool
     ensures { result ≡ is_valid i }
 {
@@ -84,6 +89,7 @@ pub fn is_valid(i: Interval) -> bool
 }
 
 // Does the work of Interval::is_full on operands that have been read.
+#[tactic(auto, unfolding(crate::specs::Circle::is_full))]
 pub fn is_full(i: Interval) -> bool
     ensures { result ≡ is_full i }
 {
@@ -91,6 +97,7 @@ pub fn is_full(i: Interval) -> bool
 }
 
 // Does the work of Interval::is_empty on operands that have been read.
+#[tactic(auto, unfolding(crate::specs::Circle::is_empty))]
 pub fn is_empty(i: Interval) -> bool
     ensures { result ≡ is_empty i }
 {
@@ -105,6 +112,7 @@ pub fn is_inverted(i: Interval) -> bool
 }
 
 // Whether the interval contains a single point.
+#[tactic(auto, unfolding(crate::specs::Circle::is_point))]
 fn is_point(i: Interval) -> bool
     ensures { result ≡ is_point i }
 {
@@ -119,6 +127,7 @@ pub fn invert(i: Interval) -> Interval
 }
 
 // Does the work of Interval::center on operands that have been read.
+#[tactic(auto, unfolding(crate::specs::Circle::center))]
 pub fn center(i: Interval) -> f64
     ensures { result ≡ center i }
 {
@@ -127,6 +136,7 @@ pub fn center(i: Interval) -> f64
 }
 
 // Does the work of Interval::len on operands that have been read.
+#[tactic(auto, unfolding(crate::specs::Circle::len))]
 pub fn len(i: Interval) -> f64
     ensures { result ≡ len i }
 {
@@ -142,6 +152,7 @@ pub fn len(i: Interval) -> f64
 }
 
 // Does the work of Interval::fast_contains on operands that have been read.
+#[tactic(auto, unfolding(crate::specs::Circle::fast_contains))]
 pub fn fast_contains(i: Interval, p: f64) -> bool
     ensures { result ≡ fast_contains i p }
 {
@@ -153,6 +164,7 @@ pub fn fast_contains(i: Interval, p: f64) -> bool
 }
 
 // Does the work of Interval::contains on operands that have been read.
+#[tactic(auto, unfolding(crate::specs::Circle::contains))]
 pub fn contains(i: Interval, p: f64) -> bool
     ensures { result ≡ contains i p }
 {
@@ -160,6 +172,7 @@ pub fn contains(i: Interval, p: f64) -> bool
 }
 
 // Does the work of Interval::contains_interval on operands that have been read.
+#[tactic(auto, unfolding(crate::specs::Circle::contains_interval))]
 pub fn contains_interval(i: Interval, other: Interval) -> bool
     ensures { result ≡ contains_interval i other }
 {
@@ -177,6 +190,7 @@ pub fn contains_interval(i: Interval, other: Interval) -> bool
 }
 
 // Does the work of Interval::interior_contains on operands that have been read.
+#[tactic(auto, unfolding(crate::specs::Circle::interior_contains))]
 pub fn interior_contains(i: Interval, p: f64) -> bool
     ensures { result ≡ interior_contains i p }
 {
@@ -189,6 +203,7 @@ pub fn interior_contains(i: Interval, p: f64) -> bool
 }
 
 // Does the work of Interval::interior_contains_interval on operands that have been read.
+#[tactic(auto, unfolding(crate::specs::Circle::interior_contains_interval))]
 pub fn interior_contains_interval(i: Interval, other: Interval) -> bool
     ensures { result ≡ interior_contains_interval i other }
 {
@@ -206,6 +221,7 @@ pub fn interior_contains_interval(i: Interval, other: Interval) -> bool
 }
 
 // Does the work of Interval::intersects on operands that have been read.
+#[tactic(auto, unfolding(crate::specs::Circle::intersects))]
 pub fn intersects(i: Interval, other: Interval) -> bool
     ensures { result ≡ intersects i other }
 {
@@ -221,6 +237,7 @@ pub fn intersects(i: Interval, other: Interval) -> bool
 }
 
 // Whether the interior of i meets other, where neither is empty and i is more than a point.
+#[tactic(auto, unfolding(crate::specs::Circle::inside_meets))]
 fn interior_meets(i: Interval, other: Interval) -> bool
     ensures { result ≡ inside_meets i other }
 {
@@ -234,6 +251,7 @@ fn interior_meets(i: Interval, other: Interval) -> bool
 }
 
 // Does the work of Interval::interior_intersects on operands that have been read.
+#[tactic(auto, unfolding(crate::specs::Circle::interior_intersects))]
 pub fn interior_intersects(i: Interval, other: Interval) -> bool
     ensures { result ≡ interior_intersects i other }
 {
@@ -288,6 +306,7 @@ pub fn union(i: Interval, other: Interval) -> Interval
 }
 
 // Does the work of Interval::intersection on operands that have been read.
+#[tactic(auto, unfolding(crate::specs::Circle::intersection))]
 pub fn intersection(i: Interval, other: Interval) -> Interval
     ensures { result ≡ intersection i other }
 {
@@ -323,17 +342,20 @@ pub fn intersection(i: Interval, other: Interval) -> Interval
 }
 
 // Both ends moved out by margin, and brought back into the range.
+#[tactic(auto, unfolding(crate::specs::Circle::moved))]
 fn move_ends(i: Interval, margin: f64) -> Interval
     ensures { result ≡ moved i margin }
 {
-    let lo = consts::remainder(i.lo - margin);
-    let hi = consts::remainder(i.hi + margin);
-    let r = new(lo.value, hi.value);
+    // No margin that comes here is refused.
+    let lo = consts::remainder(i.lo - margin).unwrap_or(0.0);
+    let hi = consts::remainder(i.hi + margin).unwrap_or(0.0);
+    let r = new(lo, hi);
     let l = pick(r.lo <= NEG_PI, PI, r.lo);
     Interval { lo: l, hi: r.hi }
 }
 
 // Does the work of Interval::expanded on operands that have been read.
+#[tactic(auto, unfolding(crate::specs::Circle::expanded))]
 pub fn expanded(i: Interval, margin: f64) -> Interval
     ensures { result ≡ expanded i margin }
 {
@@ -360,6 +382,7 @@ pub fn expanded(i: Interval, margin: f64) -> Interval
 }
 
 // Does the work of Interval::complement on operands that have been read.
+#[tactic(auto, unfolding(crate::specs::Circle::complement))]
 pub fn complement(i: Interval) -> Interval
     ensures { result ≡ complement i }
 {
@@ -371,6 +394,7 @@ pub fn complement(i: Interval) -> Interval
 }
 
 // Does the work of Interval::complement_center on operands that have been read.
+#[tactic(auto, unfolding(crate::specs::Circle::complement_center))]
 pub fn complement_center(i: Interval) -> f64
     ensures { result ≡ complement_center i }
 {
@@ -411,6 +435,7 @@ pub fn directed_hausdorff_distance(i: Interval, y: Interval) -> f64
 }
 
 // The ends of two intervals that are neither empty nor full, compared.
+#[tactic(auto, unfolding(crate::specs::Circle::near_ends))]
 fn ends_near(i: Interval, other: Interval, max_error: f64) -> bool
     ensures { result ≡ near_ends i other max_error }
 {
@@ -420,6 +445,7 @@ fn ends_near(i: Interval, other: Interval, max_error: f64) -> bool
 }
 
 // Does the work of Interval::approx_eq_by on operands that have been read.
+#[tactic(auto, unfolding(crate::specs::Circle::approx_eq_by))]
 pub fn approx_eq_by(i: Interval, other: Interval, max_error: f64) -> bool
     ensures { result ≡ approx_eq_by i other max_error }
 {
@@ -439,6 +465,7 @@ pub fn approx_eq_by(i: Interval, other: Interval, max_error: f64) -> bool
 }
 
 // Does the work of Interval::add on operands that have been read.
+#[tactic(auto, unfolding(crate::specs::Circle::add))]
 pub fn add(i: Interval, point: f64) -> Interval
     ensures { result ≡ add i point }
 {
@@ -456,6 +483,7 @@ pub fn add(i: Interval, point: f64) -> Interval
 }
 
 // Does the work of Interval::eq on operands that have been read.
+#[tactic(auto, unfolding(crate::specs::Circle::eq))]
 pub fn eq(i: Interval, other: Interval) -> bool
     ensures { result ≡ eq i other }
 {

@@ -1,176 +1,109 @@
 // How the operands of a circle interval's operations are read, in the order of document 01: the
-// intervals from left to right, then points, then a margin or an error. Zeros are read on the way.
-ghost use Rattle.std.specs.Prelude.{◌≡◌};
+// intervals from left to right, then points, then a margin or an error (`consts::read_margin`). The first that
+// is refused decides. Zeros are read on the way.
+ghost use Rattle.std.specs.Prelude.{◌≡◌, IfOk, IfErr};
+ghost use Rattle.consts.specs.Reading.{plain};
+ghost use Rattle.consts.specs.Refusal.{refusal_of};
 ghost use Rattle.s1.specs.Devices.{usual};
-ghost use Rattle.s1.specs.Reading.{read_one, read_ends, read_two, on_circle, read_point, read_with_point, read_with_margin};
+ghost use Rattle.s1.specs.Reading.{read_one, read_ends, on_circle, read_point};
 
 use crate::circle;
 use crate::interval::Interval;
-use consts::{ACCEPTED, BAD_CIRCLE, BAD_MARGIN, BAD_POINT, NEG_PI, Number, OUT_OF_REACH, PI};
-
-// An interval as it is read.
-#[derive(Clone, Copy)]
-pub struct One {
-    pub refusal: u8,
-    pub value: Interval,
-}
-
-// Two intervals as they are read.
-#[derive(Clone, Copy)]
-pub struct Two {
-    pub refusal: u8,
-    pub left: Interval,
-    pub right: Interval,
-}
-
-// An interval and a number as they are read.
-#[derive(Clone, Copy)]
-pub struct With {
-    pub refusal: u8,
-    pub value: Interval,
-    pub number: f64,
-}
+use consts::{NEG_PI, PI, Refusal, zero_read};
 
 // Whether an interval is a usual one: its ends are of size at most PI, and neither is -PI. Such a one is
 // valid; most are such, and need no other test.
+#[tactic(auto, unfolding(crate::specs::Devices::usual))]
 fn is_usual(i: Interval) -> bool
     ensures { result ≡ usual i }
 {
     (NEG_PI < i.lo) & (i.lo <= PI) & (NEG_PI < i.hi) & (i.hi <= PI)
 }
 
-// Why an interval is refused, or 0. A valid interval is in reach, so only one that is not valid is
+// Refuses an interval that is not within the limits. A valid one is in reach, so only one that is not valid is
 // tested a second time.
-fn refusal_of(i: Interval) -> u8
-    ensures { result ≡ (read_one i).refusal }
+fn test(i: Interval) -> Result<(), Refusal>
+    ensures { refusal_of result ≡ (read_one i).refusal }
 {
     if is_usual(i) {
-        return ACCEPTED;
+        return Ok(());
     }
     if circle::is_valid(i) {
-        return ACCEPTED;
+        return Ok(());
     }
     if consts::in_reach(i.lo) & consts::in_reach(i.hi) {
-        return BAD_CIRCLE;
+        return Err(Refusal::BadCircle);
     }
-    OUT_OF_REACH
+    Err(Refusal::OutOfReach)
 }
 
 // Reads an interval: every operation on one comes through here.
 // Laws: Limits.one_in, Limits.holds_plain; Readings.valid-reach; Promises.refusals-alone.
 // Ruled out: of [-PI, 0]: under 0; of [0, NaN]: under 22.
-pub fn read_one(i: Interval) -> One
-    ensures { result ≡ read_one i }
+#[tactic(auto, unfolding(crate::specs::Reading::read_one))]
+pub fn read_one(i: Interval) -> Result<Interval, Refusal>
+    ensures refusal { refusal_of result ≡ (read_one i).refusal }
+    ensures value { IfOk result (λ v. v ≡ (read_one i).value) }
 {
-    let refusal = refusal_of(i);
-    let lo = consts::zero_read(i.lo);
-    let hi = consts::zero_read(i.hi);
-    let value = Interval { lo, hi };
-    One { refusal, value }
+    test(i)?;
+    Ok(plain(i.lo, i.hi))
+}
+
+// The interval of two ends, their zeros read.
+fn plain(lo: f64, hi: f64) -> Interval
+    ensures { result ≡ record { lo = plain lo; hi = plain hi } }
+{
+    Interval {
+        lo: zero_read(lo),
+        hi: zero_read(hi),
+    }
 }
 
 // Whether a point is one of the circle: of size at most PI.
+#[tactic(auto, unfolding(crate::specs::Reading::on_circle))]
 fn on_circle(p: f64) -> bool
     ensures { result ≡ on_circle p }
 {
     (NEG_PI <= p) & (p <= PI)
 }
 
-// Why two ends make no interval, or 0.
-fn refusal_of_ends(lo: f64, hi: f64) -> u8
-    ensures { result ≡ (read_ends lo hi).refusal }
+// Refuses two ends that make no interval.
+fn test_ends(lo: f64, hi: f64) -> Result<(), Refusal>
+    ensures { refusal_of result ≡ (read_ends lo hi).refusal }
 {
     if on_circle(lo) & on_circle(hi) {
-        return ACCEPTED;
+        return Ok(());
     }
     if consts::in_reach(lo) & consts::in_reach(hi) {
-        return BAD_CIRCLE;
+        return Err(Refusal::BadCircle);
     }
-    OUT_OF_REACH
+    Err(Refusal::OutOfReach)
 }
 
 // Reads the ends of an interval that is to be made, before the seam is normalised.
 // Laws: Limits.ends-in; Promises.refusals-new.
 // Ruled out: of -PI and 0: under 22, as an interval would be; of 0 and 4: under 0.
-pub fn read_ends(lo: f64, hi: f64) -> One
-    ensures { result ≡ read_ends lo hi }
+#[tactic(auto, unfolding(crate::specs::Reading::read_ends))]
+pub fn read_ends(lo: f64, hi: f64) -> Result<Interval, Refusal>
+    ensures refusal { refusal_of result ≡ (read_ends lo hi).refusal }
+    ensures value { IfOk result (λ v. v ≡ (read_ends lo hi).value) }
 {
-    let refusal = refusal_of_ends(lo, hi);
-    let l = consts::zero_read(lo);
-    let h = consts::zero_read(hi);
-    let value = Interval { lo: l, hi: h };
-    One { refusal, value }
-}
-
-// Reads two intervals, the left one first.
-// Laws: Limits.two_in; Promises.refusals-two.
-// Ruled out: of [0, 1] and [2, 3]: the second on the left; of [-PI, 0] and [NaN, 0]: under 1 (the
-// left one decides: 22).
-pub fn read_two(i: Interval, o: Interval) -> Two
-    ensures { result ≡ read_two i o }
-{
-    let a = read_one(i);
-    let b = read_one(o);
-    let refusal = consts::first_refusal(a.refusal, b.refusal);
-    let left = a.value;
-    let right = b.value;
-    Two {
-        refusal,
-        left,
-        right,
-    }
+    test_ends(lo, hi)?;
+    Ok(plain(lo, hi))
 }
 
 // Reads a point of the circle.
 // Laws: Limits.read-point; Promises.refusals-from-point-pair.
 // Ruled out: of PI: under 3; of 4: under 0.
-pub fn read_point(p: f64) -> Number
-    ensures { result ≡ read_point p }
+#[tactic(auto, unfolding(crate::specs::Reading::read_point))]
+pub fn read_point(p: f64) -> Result<f64, Refusal>
+    ensures refusal { refusal_of result ≡ (read_point p).refusal }
+    ensures value { IfOk result (λ v. v ≡ (read_point p).value) }
+    ensures why { IfErr result (λ e. e ≡ Refusal.BadPoint) }
 {
-    let value = consts::zero_read(p);
     if on_circle(p) {
-        Number {
-            refusal: ACCEPTED,
-            value,
-        }
+        Ok(zero_read(p))
     } else {
-        Number {
-            refusal: BAD_POINT,
-            value,
-        }
-    }
-}
-
-// Reads an interval, then a point.
-// Laws: Limits.point-in; Promises.refusals-with-point.
-// Ruled out: of [0, 1] and 4: under 0; of [-PI, 0] and 4: under 3.
-pub fn read_with_point(i: Interval, p: f64) -> With
-    ensures { result ≡ read_with_point i p }
-{
-    let a = read_one(i);
-    let b = read_point(p);
-    let refusal = consts::first_refusal(a.refusal, b.refusal);
-    let value = a.value;
-    With {
-        refusal,
-        value,
-        number: b.value,
-    }
-}
-
-// Reads an interval, then a margin.
-// Laws: Limits.margin-in; Promises.refusals-expanded.
-// Ruled out: of [0, 1] and 4: under 3; of [0, 1] and infinity: under 0.
-pub fn read_with_margin(i: Interval, margin: f64) -> With
-    ensures { result ≡ read_with_margin i margin }
-{
-    let a = read_one(i);
-    let b = consts::read_number(margin, BAD_MARGIN);
-    let refusal = consts::first_refusal(a.refusal, b.refusal);
-    let value = a.value;
-    With {
-        refusal,
-        value,
-        number: b.value,
+        Err(Refusal::BadPoint)
     }
 }

@@ -13,3 +13,4 @@ pub mod Zeros
 pub mod Differences
 pub mod Examples
 pub mod Promises
+pub mod Determined

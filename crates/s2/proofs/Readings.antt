@@ -336,3 +336,21 @@ margins-plain {m} n =
       lat-in-reach = plain-reach m.lat n.lat-in-reach;
       lng-in-reach = plain-reach m.lng n.lng-in-reach;
     }
+
+-- no rectangle is refused as a point or a list is
+not_own : (r : Rect) (n : ℕ) → eqb 0 n ≡ false → eqb 1 n ≡ false → eqb 21 n ≡ false → eqb 22 n ≡ false → eqb 23 n ≡ false → eqb (read_one r).refusal n ≡ false
+unfolding read_one fault_of first_fault
+not_own r n a b c d e = go (rect_in_reach r) (valid_latitudes r.lat) (circle.is_valid r.lng) (like_parts r)
+  where
+    go : (s t u v : Bool) → eqb (cond s (cond t (cond u (cond v 0 23) 22) 21) 1) n ≡ false
+    go true true true true = a
+    go true true true false = e
+    go true true false v = d
+    go true false u v = c
+    go false t u v = b
+
+pub no_bad_point : (r : Rect) → eqb (read_one r).refusal 3 ≡ false
+no_bad_point r = not_own r 3 refl refl refl refl refl
+
+pub no_bad_list : (r : Rect) → eqb (read_one r).refusal 5 ≡ false
+no_bad_list r = not_own r 5 refl refl refl refl refl

@@ -1,9 +1,10 @@
 -- What each operation on points and rectangles answers, for any numbers whatever: its refusal number (Reading.antt), and beside it what Zone.antt says
 -- of the operands as they were read, or the result that document 01 states for a refusal. Definitions only.
-use Rattle.std.specs.Prelude.{true, ℕ}
+use Rattle.std.specs.Prelude.{true, ◌||◌, cond, ℕ, eqb, Result, Ok, Err}
+use Rattle.consts.specs.declared.refusal.Refusal.{Refusal}
 use Rattle.consts.specs.declared.answer.YesNo.{YesNo}
 use Rattle.consts.specs.Constants.{EPSILON}
-use Rattle.consts.specs.Refusal.{number, accepted, first_refusal, given}
+use Rattle.consts.specs.Refusal.{number, accepted, bad_point, bad_list, code, first_refusal, given}
 use Rattle.consts.specs.Answer.{ZERO, test}
 use Rattle.s2.specs.declared.latlng.LatLng.{LatLng}
 use Rattle.s2.specs.declared.rect.Rect.{Rect}
@@ -20,6 +21,16 @@ rect_answer r = record { refusal = number accepted; value = r }
 abbrev pub empty_under : ℕ → Answer
 empty_under n = record { refusal = n; value = EMPTY }
 
+-- the answer that a result stands for
+abbrev pub rectangle_of : Result Rect Refusal → Answer
+rectangle_of (Ok r) = rect_answer r
+rectangle_of (Err w) = empty_under (code w)
+
+-- the answer that growth's result stands for: refused for a point or for the list of them, it is the rectangle as it was handed in
+abbrev pub grown_of : Rect → Result Rect Refusal → Answer
+grown_of r (Ok o) = rect_answer o
+grown_of r (Err w) = cond (eqb (code w) (number bad_point) || eqb (code w) (number bad_list)) (record { refusal = code w; value = r }) (empty_under (code w))
+
 -- the answer r, where the refusal number is 0
 abbrev pub rectangle : ℕ → Rect → Answer
 rectangle n r = given n (rect_answer r) (empty_under n)
@@ -30,6 +41,11 @@ lat_lng_answer p = record { refusal = number accepted; value = p }
 -- a refused point is two zeros
 abbrev pub zeros_under : ℕ → PointAnswer
 zeros_under n = record { refusal = n; value = at ZERO ZERO }
+
+-- the answer that a result stands for
+abbrev pub point_of : Result LatLng Refusal → PointAnswer
+point_of (Ok p) = lat_lng_answer p
+point_of (Err w) = zeros_under (code w)
 
 -- the answer p, where the refusal number is 0
 abbrev pub point : ℕ → LatLng → PointAnswer

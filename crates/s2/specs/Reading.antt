@@ -9,10 +9,6 @@ use Rattle.s1.specs.Circle as circle
 use Rattle.s1.specs.Reading as longitudes
 use Rattle.s2.specs.declared.latlng.LatLng.{LatLng}
 use Rattle.s2.specs.declared.rect.Rect.{Rect}
-use Rattle.s2.specs.declared.reading.One.{One}
-use Rattle.s2.specs.declared.reading.Two.{Two}
-use Rattle.s2.specs.declared.reading.Pair.{Pair}
-use Rattle.s2.specs.declared.reading.With.{With}
 use Rattle.s2.specs.Zone.{valid_latitudes, like_parts, is_lat_lng}
 
 -- a rectangle as it is read: each number with negative zero as zero
@@ -37,6 +33,28 @@ rect_in_reach r = in_reach r.lat.lo && in_reach r.lat.hi && in_reach r.lng.lo &&
 -- why a rectangle whose numbers are in reach is not valid, or 0
 unfoldable pub fault_of : Rect → ℕ
 fault_of r = first_fault (valid_latitudes r.lat) (circle.is_valid r.lng) (like_parts r)
+
+-- a rectangle as it is read, and the refusal number that it is read under
+pub record One : Type 0 where
+  pub refusal : ℕ
+  pub value : Rect
+
+-- two rectangles
+pub record Two : Type 0 where
+  pub refusal : ℕ
+  pub left : Rect
+  pub right : Rect
+
+-- a point, or two margins
+pub record Pair : Type 0 where
+  pub refusal : ℕ
+  pub value : LatLng
+
+-- a rectangle and a point, or two margins
+pub record With : Type 0 where
+  pub refusal : ℕ
+  pub value : Rect
+  pub beside : LatLng
 
 unfoldable pub read_one : Rect → One
 read_one r = record { refusal = cond (rect_in_reach r) (fault_of r) (number out_of_reach); value = as_read r }

@@ -1,5 +1,6 @@
 // A place, in document 01's words: a latitude, and a longitude place, which is a double above -PI up to PI
-// or the gap between two neighbouring doubles. specs/Places.antt says which records are places.
+// or the gap between two neighbouring doubles. specs/Places.antt says which records are places. The mark stands
+// beside the double, since the promises speak of the double of both, by its name.
 
 #[repr(C)]
 #[derive(Clone, Copy)]

@@ -19,6 +19,7 @@ use s1::circle;
 use s1::interval::Interval as Circle;
 
 // Whether a latitude lies from pole to pole.
+#[tactic(auto, unfolding(crate::specs::Zone::latitude))]
 fn is_latitude(x: f64) -> bool
     ensures { result ≡ latitude x }
 {
@@ -26,17 +27,11 @@ fn is_latitude(x: f64) -> bool
 }
 
 // Does the work of LatLng::is_valid on operands that have been read.
+#[tactic(auto, unfolding(crate::specs::Zone::is_lat_lng, s1::specs::Reading::on_circle))]
 pub fn is_latlng(p: LatLng) -> bool
     ensures { result ≡ is_lat_lng p }
 {
     is_latitude(p.lat) & ((NEG_PI <= p.lng) & (p.lng <= PI))
-}
-
-// Whether two tests agree.
-fn agree(a: bool, b: bool) -> bool
-    ensures { result ≡ alike a b }
-{
-    if a { b } else { !b }
 }
 
 // Whether lat.lo lies from pole to pole and lat.hi is not above the pole: the first of the three tests of
@@ -51,10 +46,11 @@ pub(crate) fn has_latitudes(r: Rect) -> bool
 pub(crate) fn has_like_parts(r: Rect) -> bool
     ensures { result ≡ like_parts r }
 {
-    agree(line::is_empty(r.lat), circle::is_empty(r.lng))
+    line::is_empty(r.lat) == circle::is_empty(r.lng)
 }
 
 // Does the work of Rect::is_valid on operands that have been read.
+#[tactic(auto, unfolding(crate::specs::Zone::is_valid))]
 pub fn is_valid(r: Rect) -> bool
     ensures { result ≡ is_valid r }
 {
@@ -62,6 +58,7 @@ pub fn is_valid(r: Rect) -> bool
 }
 
 // Does the work of Rect::from_latlng on operands that have been read.
+#[tactic(auto, unfolding(crate::specs::Zone::from_lat_lng))]
 pub fn from_latlng(p: LatLng) -> Rect
     ensures { result ≡ from_lat_lng p }
 {
@@ -74,6 +71,7 @@ pub fn from_latlng(p: LatLng) -> Rect
 }
 
 // Does the work of Rect::from_center_size on operands that have been read.
+#[tactic(auto, unfolding(crate::specs::Zone::from_center_size))]
 pub fn from_center_size(center: LatLng, size: LatLng) -> Rect
     ensures { result ≡ from_center_size center size }
 {
@@ -85,6 +83,7 @@ pub fn from_center_size(center: LatLng, size: LatLng) -> Rect
 }
 
 // Does the work of Rect::from_point_pair on operands that have been read.
+#[tactic(auto, unfolding(crate::specs::Zone::from_point_pair))]
 pub fn from_point_pair(p1: LatLng, p2: LatLng) -> Rect
     ensures { result ≡ from_point_pair p1 p2 }
 {
@@ -94,6 +93,7 @@ pub fn from_point_pair(p1: LatLng, p2: LatLng) -> Rect
 }
 
 // Does the work of Rect::is_empty on operands that have been read.
+#[tactic(auto, unfolding(crate::specs::Zone::is_empty))]
 pub fn is_empty(r: Rect) -> bool
     ensures { result ≡ is_empty r }
 {
@@ -101,6 +101,7 @@ pub fn is_empty(r: Rect) -> bool
 }
 
 // Does the work of Rect::is_full on operands that have been read.
+#[tactic(auto, unfolding(crate::specs::Zone::is_full))]
 pub fn is_full(r: Rect) -> bool
     ensures { result ≡ is_full r }
 {
@@ -108,6 +109,7 @@ pub fn is_full(r: Rect) -> bool
 }
 
 // Does the work of Rect::is_point on operands that have been read.
+#[tactic(auto, unfolding(crate::specs::Zone::is_point))]
 pub fn is_point(r: Rect) -> bool
     ensures { result ≡ is_point r }
 {
@@ -122,6 +124,7 @@ pub fn is_inverted(r: Rect) -> bool
 }
 
 // Does the work of Rect::vertex on operands that have been read.
+#[tactic(auto, unfolding(crate::specs::Zone::vertex))]
 pub fn vertex(r: Rect, i: u8) -> LatLng
     ensures { result ≡ vertex r i }
 {
@@ -146,6 +149,7 @@ pub fn vertex(r: Rect, i: u8) -> LatLng
 }
 
 // Does the work of Rect::center on operands that have been read.
+#[tactic(auto, unfolding(crate::specs::Zone::center))]
 pub fn center(r: Rect) -> LatLng
     ensures { result ≡ center r }
 {
@@ -155,6 +159,7 @@ pub fn center(r: Rect) -> LatLng
 }
 
 // Does the work of Rect::size on operands that have been read.
+#[tactic(auto, unfolding(crate::specs::Zone::size))]
 pub fn size(r: Rect) -> LatLng
     ensures { result ≡ size r }
 {
@@ -171,6 +176,7 @@ fn standard_empty() -> Rect
 }
 
 // Does the work of Rect::expanded on operands that have been read.
+#[tactic(auto, unfolding(crate::specs::Zone::expanded))]
 pub fn expanded(r: Rect, margin: LatLng) -> Rect
     ensures { result ≡ expanded r margin }
 {
@@ -184,6 +190,7 @@ pub fn expanded(r: Rect, margin: LatLng) -> Rect
 }
 
 // Does the work of Rect::polar_closure on operands that have been read.
+#[tactic(auto, unfolding(crate::specs::Zone::polar_closure))]
 pub fn polar_closure(r: Rect) -> Rect
     ensures { result ≡ polar_closure r }
 {
@@ -198,6 +205,7 @@ pub fn polar_closure(r: Rect) -> Rect
 }
 
 // Does the work of Rect::union on operands that have been read.
+#[tactic(auto, unfolding(crate::specs::Zone::union))]
 pub fn union(r: Rect, other: Rect) -> Rect
     ensures { result ≡ union r other }
 {
@@ -207,6 +215,7 @@ pub fn union(r: Rect, other: Rect) -> Rect
 }
 
 // Does the work of Rect::intersection on operands that have been read.
+#[tactic(auto, unfolding(crate::specs::Zone::intersection))]
 pub fn intersection(r: Rect, other: Rect) -> Rect
     ensures { result ≡ intersection r other }
 {
@@ -219,6 +228,7 @@ pub fn intersection(r: Rect, other: Rect) -> Rect
 }
 
 // Does the work of Rect::intersects on operands that have been read.
+#[tactic(auto, unfolding(crate::specs::Zone::intersects))]
 pub fn intersects(r: Rect, other: Rect) -> bool
     ensures { result ≡ intersects r other }
 {
@@ -230,6 +240,7 @@ pub fn intersects(r: Rect, other: Rect) -> bool
 }
 
 // Does the work of Rect::interior_intersects on operands that have been read.
+#[tactic(auto, unfolding(crate::specs::Zone::interior_intersects))]
 pub fn interior_intersects(r: Rect, other: Rect) -> bool
     ensures { result ≡ interior_intersects r other }
 {
@@ -241,6 +252,7 @@ pub fn interior_intersects(r: Rect, other: Rect) -> bool
 }
 
 // Does the work of Rect::contains on operands that have been read.
+#[tactic(auto, unfolding(crate::specs::Zone::contains))]
 pub fn contains(r: Rect, other: Rect) -> bool
     ensures { result ≡ contains r other }
 {
@@ -252,6 +264,7 @@ pub fn contains(r: Rect, other: Rect) -> bool
 }
 
 // Does the work of Rect::interior_contains on operands that have been read.
+#[tactic(auto, unfolding(crate::specs::Zone::interior_contains))]
 pub fn interior_contains(r: Rect, other: Rect) -> bool
     ensures { result ≡ interior_contains r other }
 {
@@ -263,6 +276,7 @@ pub fn interior_contains(r: Rect, other: Rect) -> bool
 }
 
 // Does the work of Rect::contains_latlng on operands that have been read.
+#[tactic(auto, unfolding(crate::specs::Zone::contains_lat_lng))]
 pub fn contains_latlng(r: Rect, p: LatLng) -> bool
     ensures { result ≡ contains_lat_lng r p }
 {
@@ -274,6 +288,7 @@ pub fn contains_latlng(r: Rect, p: LatLng) -> bool
 }
 
 // Does the work of Rect::interior_contains_latlng on operands that have been read.
+#[tactic(auto, unfolding(crate::specs::Zone::interior_contains_lat_lng))]
 pub fn interior_contains_latlng(r: Rect, p: LatLng) -> bool
     ensures { result ≡ interior_contains_lat_lng r p }
 {
@@ -285,6 +300,7 @@ pub fn interior_contains_latlng(r: Rect, p: LatLng) -> bool
 }
 
 // Does the work of Rect::add on operands that have been read.
+#[tactic(auto, unfolding(crate::specs::Zone::add))]
 pub fn add(r: Rect, p: LatLng) -> Rect
     ensures { result ≡ add r p }
 {
@@ -294,6 +310,7 @@ pub fn add(r: Rect, p: LatLng) -> Rect
 }
 
 // Does the work of Rect::approx_eq_by on operands that have been read.
+#[tactic(auto, unfolding(crate::specs::Zone::approx_eq_by))]
 pub fn approx_eq_by(r: Rect, other: Rect, max_error: LatLng) -> bool
     ensures { result ≡ approx_eq_by r other max_error }
 {
@@ -305,6 +322,7 @@ pub fn approx_eq_by(r: Rect, other: Rect, max_error: LatLng) -> bool
 }
 
 // Does the work of Rect::eq on operands that have been read.
+#[tactic(auto, unfolding(crate::specs::Zone::eq))]
 pub fn eq(r: Rect, other: Rect) -> bool
     ensures { result ≡ eq r other }
 {

@@ -10,7 +10,11 @@ use lib.Dec.{ltb}
 use lib.ListN.{length, take, drop}
 use lib.Ieee.{Float}
 use Rattle.order.proofs.Ranks.{and-of}
+use Rattle.std.specs.Prelude.{Result, Ok, Err, IsOk}
+use Rattle.std.proofs.Common.{rules}
 use Rattle.consts.specs.Refusal.{of_entry}
+use Rattle.consts.proofs.Codes.{refuses}
+use Rattle.entries.specs.declared.records.Fault.{Fault as RecordFault}
 use Rattle.s2.specs.declared.rect.Rect.{Rect}
 use Rattle.s2.specs.Places.{Valid}
 use Rattle.s2.proofs.Readings.{valid-read}
@@ -22,11 +26,11 @@ use Rattle.entries.proofs.Lengths.{good}
 use Rattle.lists.specs.Rects.{numbers_of}
 use Rattle.lists.proofs.RectLists.{length-numbers, rects-numbers}
 use Rattle.region.specs.declared.region.Pieces.{Pieces}
-use Rattle.region.specs.Answers.{pieces_of, Promised}
-use Rattle.region.proofs.Listings.{IsListed, listing as region-listing}
+use Rattle.region.specs.Answers.{pieces_of, told_pieces, Promised}
+use Rattle.region.proofs.Listings.{IsListed, listing as region-listing, listed_under}
 use Rattle.text.specs.Answers as text
 use Rattle.text.specs.Text.{refused_text, refused_at_text}
-use Rattle.stream.specs.declared.gather.Gathered.{Gathered}
+use Rattle.stream.specs.Inside.{Gathered}
 use Rattle.stream.specs.Stream.{Stream, Numbers, Fault, RECORDS, to_stream, stream_of}
 use Rattle.stream.specs.Answers.{region_text, fault_text, text_of, answer_text}
 use Rattle.stream.specs.Inside.{IsGathered, Taken}
@@ -59,6 +63,11 @@ taken s l e = subst Sound e (sound s (input_of RECORDS s) refl)
 -- ---- what `common_region` leaves for it
 pub listing : (l out : List Float) (r : Pieces) (o : List Float) → Taken l → length out ≡ 2048 → Promised l out r o → IsListed l r.count o
 listing l out r o t e p = region-listing l out r o t.is_whole t.all_valid e p
+
+-- it is accepted
+pub accepted-list : (l out : List Float) (x : Result ℕ RecordFault) (o : List Float) → Taken l → length out ≡ 2048 → Promised l out (told_pieces x) o → IsOk x
+accepted-list l out (Ok n) o t e p = search rules
+accepted-list l out (Err f) o t e p = absurd (refuses f.refusal (listed_under l out (told_pieces (Err f)) o t.is_whole t.all_valid e p))
 
 -- ---- and how it is written
 module _ (l : List Float) (n : ℕ) (o : List Float) (i : IsListed l n o) where

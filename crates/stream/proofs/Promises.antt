@@ -10,7 +10,8 @@ use borrow.Author.Tests.{leb-false}
 use lib.Dec.{leb}
 use lib.ListN.{length, take, get_or}
 use lib.Ieee.{Float}
-use Rattle.consts.specs.Refusal.{number, accepted, bad_list, bad_record, of_entry}
+use Rattle.consts.specs.declared.refusal.Refusal.{Refusal}
+use Rattle.consts.specs.Refusal.{number, accepted, bad_list, bad_record, of_entry, code}
 use Rattle.s2.specs.declared.rect.Rect.{Rect}
 use Rattle.s2.specs.Reading.{as_read, read_one}
 use Rattle.s2.proofs.Refusals.{never}
@@ -21,8 +22,8 @@ use Rattle.lists.specs.Rects.{numbers_of, as_read_all}
 use Rattle.region.specs.Answers.{pieces_of}
 use Rattle.region.proofs.Listed.{listed-is}
 use Rattle.text.specs.Text.{refused_text, refused_at_text}
-use Rattle.record.specs.declared.record.Record.{Record}
-use Rattle.record.specs.declared.record.Record.TheVariants.{Rectangle, Refused}
+use Rattle.record.specs.Records.{Record}
+use Rattle.std.specs.Prelude.{Ok, Err}
 use Rattle.record.specs.Records.{is_mark, whole_record, rect_of, number_of, record_number, record_values, IsRecord}
 use Rattle.stream.specs.Bytes.{record_bytes, stream_bytes}
 use Rattle.stream.specs.Stream.{Numbers, stream_of}
@@ -64,12 +65,12 @@ record-reads r v t = (laws.number_read r v t, laws.rect-read r v t)
 
 -- ---- "One record read is either a rectangle or a refusal": a valid rectangle, as it is read, or the number; and no other record is allowed
 pub rectangle-or-refusal : (s : List ℕ) (x : Record) → IsRecord s x
-    → ((r : Rect) × (x ≡ Rectangle r) × (number_of s ≡ number accepted) × (as_read (rect_of s) ≡ r) × Valid r) ⊎ ((n : ℕ) × (x ≡ Refused n) × (number_of s ≡ n) × (n ≡ number accepted → ⊥))
+    → ((r : Rect) × (x ≡ Ok r) × (number_of s ≡ number accepted) × (as_read (rect_of s) ≡ r) × Valid r) ⊎ ((w : Refusal) × (x ≡ Err w) × (number_of s ≡ code w) × (code w ≡ number accepted → ⊥))
 unfolding record_number record_values
-rectangle-or-refusal s (Rectangle r) i =
-    let t = records.is-taken s (Rectangle r) r i refl in
-    inl (r, refl, t.0, records.taken_is s (Rectangle r) r i refl, (records.record-plain s (Rectangle r) i).0.is-valid)
-rectangle-or-refusal s (Refused n) i = inr (n, refl, sym i.number_is, (λ e. records.is-refused s (Refused n) n i refl (sym i.number_is ∙ e)))
+rectangle-or-refusal s (Ok r) i =
+    let t = records.is-taken s (Ok r) r i refl in
+    inl (r, refl, t.0, records.taken_is s (Ok r) r i refl, (records.record-plain s (Ok r) i).0.is-valid)
+rectangle-or-refusal s (Err w) i = inr (w, refl, sym i.number_is, (λ e. records.is-refused s (Err w) w i refl (sym i.number_is ∙ e)))
 
 pub one-record : (s : List ℕ) (x y : Record) → IsRecord s x → IsRecord s y → x ≡ y
 one-record s x y p q = records.one-record s x y p q

@@ -10,15 +10,16 @@ use lib.ListN.{length, take, drop, length-append, length-drop}
 use lib.Seq.{drop-drop, take_all}
 use lib.Dec.{leb}
 use lib.Ieee.{Float}
-use Rattle.consts.specs.Refusal.{number, bad_list, bad_record}
+use Rattle.consts.specs.declared.refusal.Refusal.{Refusal}
+use Rattle.consts.specs.Refusal.{number, bad_list, bad_record, code}
 use Rattle.s2.specs.declared.rect.Rect.{Rect}
 use Rattle.s2.specs.Reading.{as_read}
 use Rattle.lists.specs.Rects.{put_rect, numbers_of}
 use Rattle.entries.proofs.Inputs as reading
 use Rattle.lists.proofs.RectLists.{sets-take, four-stores, put-stores}
-use Rattle.record.specs.declared.record.Record.{Record}
-use Rattle.record.specs.declared.record.Record.TheVariants.{Rectangle, Refused}
-use Rattle.stream.specs.declared.gather.Gathered.{Gathered}
+use Rattle.record.specs.Records.{Record}
+use Rattle.std.specs.Prelude.{Ok, Err}
+use Rattle.stream.specs.Inside.{Gathered}
 use Rattle.record.specs.Records.{whole_record, rect_of, number_of, record_number, IsRecord}
 use Rattle.stream.specs.Stream.{Numbers, Fault, over_number, RECORDS, to_stream, stream_of}
 use Rattle.stream.specs.Inside.{ended_with, gathered}
@@ -81,7 +82,7 @@ module _ (s : List ℕ) (l : List Float) (k : ℕ) (held : Held s l k) where
   left-some h = omega (arith, length-drop (34 * k) s)
 
   -- one more record
-  pub good : (l' : List Float) (x : Record) (r : Rect) → k < 512 → 34 * k < length s → length l ≡ 2048 → IsRead x s k → x ≡ Rectangle r → l' ≡ put_rect (4 * k) r l → Held s l' (k + 1)
+  pub good : (l' : List Float) (x : Record) (r : Rect) → k < 512 → 34 * k < length s → length l ≡ 2048 → IsRead x s k → x ≡ Ok r → l' ≡ put_rect (4 * k) r l → Held s l' (k + 1)
   good l' x r h m e is case put-so =
       let t : List ℕ = drop (34 * k) s in
       let i = is-taken t x r (is_read x s k is) case in
@@ -104,14 +105,14 @@ module _ (s : List ℕ) (l : List Float) (k : ℕ) (held : Held s l k) where
       fours k = omega arith
 
   -- a fault
-  pub bad : (x : Record) (n m : ℕ) → k < 512 → 34 * k < length s → IsRead x s k → x ≡ Refused n → m ≡ record_number x → stream_of s ≡ gathered (record { refusal = m; count = k }) l
-  unfolding stream_of
-  bad x n m h at is case number-so =
+  pub bad : (x : Record) (w : Refusal) → k < 512 → 34 * k < length s → IsRead x s k → x ≡ Err w → stream_of s ≡ gathered (record { refusal = code w; count = k }) l
+  unfolding stream_of record_number
+  bad x w h at is case =
       let t : List ℕ = drop (34 * k) s in
       let i = is_read x s k is in
-      let z = is-refused t x n i case in
+      let z = is-refused t x w i case in
       ap to_stream (reading.bad RECORDS s held.rects t held.rest (omega (arith, held.many)) (left-some at) z)
-      ∙ ap (Fault (number_of t)) held.many ∙ sym (rw (number-so ∙ i.number_is, ne_eqb (number_of t) 0 z) refl)
+      ∙ ap (Fault (number_of t)) held.many ∙ sym (rw (sym (ap record_number case) ∙ i.number_is, ne_eqb (number_of t) 0 z) refl)
 
   -- nothing is left
   pub stops : length s ≤ 34 * k → stream_of s ≡ gathered (record { refusal = 0; count = k }) l

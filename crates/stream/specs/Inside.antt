@@ -1,11 +1,20 @@
 -- What the functions of src/ promise each other. Nothing here needs to be believed: no public contract and no promise cites it.
-use Rattle.std.specs.Prelude.{◌≡◌, true, cond, List, ℕ, ◌*◌, ◌≤◌, length, take, drop, leb, Float}
-use Rattle.consts.specs.Refusal.{number, accepted, given}
+use Rattle.std.specs.Prelude.{◌≡◌, true, cond, List, ℕ, ◌*◌, ◌≤◌, length, take, drop, leb, Float, Result, Ok, Err}
+use Rattle.consts.specs.Refusal.{number, accepted, code, given}
 use Rattle.s2.specs.Places.{Valid}
 use Rattle.entries.specs.Lists.{All, whole}
 use Rattle.lists.specs.Rects.{rects_of}
-use Rattle.stream.specs.declared.gather.Gathered.{Gathered}
+use Rattle.entries.specs.declared.records.Fault.{Fault as RecordFault}
 use Rattle.stream.specs.Stream.{Stream, Numbers, Fault, over_number, stream_of}
+
+-- how many rectangles were gathered; under a refusal number, how many stand before the fault
+pub record Gathered : Type 0 where
+  pub refusal : ℕ
+  pub count : ℕ
+
+abbrev pub gathered_of : Result ℕ RecordFault → Gathered
+gathered_of (Ok k) = record { refusal = number accepted; count = k }
+gathered_of (Err f) = record { refusal = code f.refusal; count = f.entry }
 
 -- k records were read, and no other is taken
 unfoldable pub ended_with : ℕ → List ℕ → Gathered

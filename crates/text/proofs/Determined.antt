@@ -38,8 +38,10 @@ same_line : (a b c d a' b' c' d' : Float) → fits binary64 a ≡ true → fits 
     → line_text a b c d ≡ line_text a' b' c' d' → (a ≡ a') × (b ≡ b') × (c ≡ c') × (d ≡ d')
 unfolding line_text
 same_line a b c d a' b' c' d' fa fb fc fd fa' fb' fc' fd' e =
-    let p : (a ≡ a') × (word_text b 32 ++ (word_text c 32 ++ word_text d 10) ≡ word_text b' 32 ++ (word_text c' 32 ++ word_text d' 10)) = same-words a a' 32 (word_text b 32 ++ (word_text c 32 ++ word_text d 10)) (word_text b' 32 ++ (word_text c' 32 ++ word_text d' 10)) fa fa' e in
-    let q : (b ≡ b') × (word_text c 32 ++ word_text d 10 ≡ word_text c' 32 ++ word_text d' 10) = same-words b b' 32 (word_text c 32 ++ word_text d 10) (word_text c' 32 ++ word_text d' 10) fb fb' p.1 in
+    let u : List ℕ = word_text c 32 ++ word_text d 10 in
+    let u' : List ℕ = word_text c' 32 ++ word_text d' 10 in
+    let p : (a ≡ a') × (word_text b 32 ++ u ≡ word_text b' 32 ++ u') = same-words a a' 32 (word_text b 32 ++ u) (word_text b' 32 ++ u') fa fa' e in
+    let q : (b ≡ b') × (u ≡ u') = same-words b b' 32 u u' fb fb' p.1 in
     let r : (c ≡ c') × (word_text d 10 ≡ word_text d' 10) = same-words c c' 32 (word_text d 10) (word_text d' 10) fc fc' q.1 in
     (p.0, q.0, r.0, same_word d d' 10 fd fd' r.1)
 
@@ -59,7 +61,8 @@ same_lines (suc k) l m p q f g e =
     let h : 4 ≤ length l = omega arith in
     let j : 4 ≤ length m = omega arith in
     let c : (line_text (x 0) (x 1) (x 2) (x 3) ≡ line_text (y 0) (y 1) (y 2) (y 3)) × (lines_text (drop 4 l) ≡ lines_text (drop 4 m)) =
-    cut 68 (line_text (x 0) (x 1) (x 2) (x 3)) (lines_text (drop 4 l)) (line_text (y 0) (y 1) (y 2) (y 3)) (lines_text (drop 4 m)) (length-line (x 0) (x 1) (x 2) (x 3)) (length-line (y 0) (y 1) (y 2) (y 3))
+    cut 68 (line_text (x 0) (x 1) (x 2) (x 3)) (lines_text (drop 4 l)) (line_text (y 0) (y 1) (y 2) (y 3)) (lines_text (drop 4 m))
+    (length-line (x 0) (x 1) (x 2) (x 3)) (length-line (y 0) (y 1) (y 2) (y 3))
     (sym (first-line l h) ∙ e ∙ first-line m j) in
     let s : (x 0 ≡ y 0) × (x 1 ≡ y 1) × (x 2 ≡ y 2) × (x 3 ≡ y 3) = same_line (x 0) (x 1) (x 2) (x 3) (y 0) (y 1) (y 2) (y 3) (f 0) (f 1) (f 2) (f 3) (g 0) (g 1) (g 2) (g 3) c.0 in
     let r : drop 4 l ≡ drop 4 m = same_lines k (drop 4 l) (drop 4 m) (length-drop 4 l ∙ omega arith) (length-drop 4 m ∙ omega arith) (after-four l f) (after-four m g) c.1 in

@@ -12,7 +12,8 @@ use lib.Ieee.{Float}
 use Rattle.consts.specs.Refusal.{number, accepted}
 use Rattle.entries.specs.Lists.{whole}
 use Rattle.text.specs.Text.{pieces_text, refused_text, refused_at_text, refused_at_line_text}
-use Rattle.text.specs.Answers.{wrote, left, wrote_pieces, left_pieces, wrote_refusal, left_refusal, wrote_at, left_at, wrote_refusal_at, left_refusal_at, wrote_refusal_at_line, left_refusal_at_line, Stands}
+use Rattle.text.specs.Answers.{wrote, left, wrote_pieces, left_pieces, wrote_refusal, left_refusal, wrote_at, left_at, Stands}
+use Rattle.text.specs.Answers.{wrote_refusal_at, left_refusal_at, wrote_refusal_at_line, left_refusal_at_line}
 use Rattle.text.proofs.Lengths.{few-digits, length-pieces, length-refused}
 use Rattle.text.proofs.Answered.{wrote-fits, whole_is}
 

@@ -90,3 +90,6 @@ length-refused n = simp length-append (omega arith)
 
 pub length-where : (words : List ℕ) (n place : ℕ) → length (refused_where words n place) ≡ 9 + length (decimal_text n) + length words + length (decimal_text place)
 length-where words n place = simp length-append (omega (arith, length-head words place))
+
+-- for `grind` in src/
+pub ruleset sizes = (length-number, length-word, length-lines, length-head, length-pieces, length-where)

@@ -7,3 +7,4 @@ pub mod Determined
 pub mod Laws
 pub mod Examples
 pub mod Promises
+pub mod Results

@@ -14,10 +14,10 @@ use Rattle.bits.specs.Pattern.{to_pattern}
 use Rattle.consts.specs.Refusal.{number, accepted, bad_list, no_room}
 use Rattle.entries.specs.Lists.{All, whole}
 use Rattle.entries.proofs.Lengths.{not-whole-when}
-use Rattle.text.specs.declared.text.Written.{Written}
 use Rattle.text.specs.Text.{hex_digit, hex, number_text, word_text, line_text, lines_text, decimal_text, head_text, PIECES, REFUSED, pieces_text, refused_text, value}
 use Rattle.text.specs.Text.{AT, refused_at_text, AT-LINE, refused_at_line_text}
-use Rattle.text.specs.Answers.{refused_with, wrote, left, wrote_pieces, left_pieces, wrote_refusal, left_refusal, wrote_refusal_at, left_refusal_at, wrote_refusal_at_line, left_refusal_at_line, Stands}
+use Rattle.text.specs.Answers.{Written, refused_with, wrote, left, wrote_pieces, left_pieces, wrote_refusal, left_refusal, Stands}
+use Rattle.text.specs.Answers.{wrote_refusal_at, left_refusal_at, wrote_refusal_at_line, left_refusal_at_line}
 use Rattle.text.proofs.Lengths as lengths
 use Rattle.text.proofs.Digits as digits
 use Rattle.text.proofs.Determined as determined

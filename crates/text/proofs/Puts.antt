@@ -1,66 +1,61 @@
--- Laws of writing bytes from a place on: the length stays; two texts one after the other are one text; a text at the start stands there, and what was
--- behind it stays. And a turn of each loop that writes: what is still to come, after one step. Assumes nothing.
-use mathlib.Core.Path.{◌≡◌, refl, sym, ap, ◌∙◌}
-use mathlib.Core.List.{List, [], ◌∷◌, ◌++◌}
+-- Laws of texts at the start of the output: its length stays; a byte or a text that is put right behind such a text makes one text with it; and the digits of
+-- a number, put one by one. Assumes nothing.
+use mathlib.Core.Path.{◌≡◌, sym, ap, ◌∙◌}
+use mathlib.Core.List.{List, [], ◌∷◌, ◌++◌, append_assoc}
 use Prim.Native.Nat.{ℕ, suc, ◌+◌, ◌-◌, ◌*◌, ◌/◌, ◌%◌, ◌^◌, ◌≤◌, ◌<◌}
-use native.Mathlib.Nat.{zero-add}
-use native.Mathlib.Numerals.{add-one}
 use native.Mathlib.Omega.{arith}
-use lib.ListN.{length, drop, get_or, set, drop_of_length-le}
-use lib.Seq.{sets, length-sets, sets-eq, drop-cons}
+use borrow.Rule.Slice.PartMut.{put_mid, mid_of, post_of}
+use lib.ListN.{length, take, drop, get_or, set, length-append, length-drop, drop_of_length-le}
+use lib.Seq.{sets, sets-eq, drop-drop, drop-cons, take_at, drop_at}
+use Rattle.std.proofs.Common.{append-nil, take_all}
+use Rattle.std.proofs.lemmas.List.{set_at}
 use Rattle.text.specs.Text.{hex_digit, hex}
-use Rattle.text.specs.Inside.{put}
+use Rattle.text.specs.Inside.{onto}
+use Rattle.text.proofs.Lengths.{length-hex}
 
--- the library's run of stores
-put_is : (at : ℕ) (t o : List ℕ) → put at t o ≡ sets o at t
-unfolding put
-put_is at [] o = refl
-put_is at (b ∷ t) o = put_is (suc at) t (set o at b)
+pub length-onto : (t o : List ℕ) → length t ≤ length o → length (onto t o) ≡ length o
+length-onto t o h = simp (length-append, length-drop) (omega arith)
 
-pub length-put : (at : ℕ) (t o : List ℕ) → length (put at t o) ≡ length o
-length-put at t o = ap length (put_is at t o) ∙ length-sets o at t
+-- ---- right behind a text of a length a: a text, in what begins there
+pub onto_then : (a k : ℕ) (s t o p q : List ℕ) → length s ≡ a → a + length t ≤ length o → p ≡ onto s o → k ≡ length p - a → q ≡ onto t (mid_of a k p)
+    → put_mid a k p q ≡ onto (s ++ t) o
+onto_then a k s t o p q e h f g u =
+    let v : p ≡ s ++ drop a o = f ∙ ap (λ (n : ℕ). s ++ drop n o) e in
+    let b : take a p ≡ s = ap (take a) v ∙ take_at s (drop a o) a e in
+    let d : drop a p ≡ drop a o = ap (drop a) v ∙ drop_at s (drop a o) a e in
+    let n : length p ≡ length o = ap length f ∙ length-onto s o (omega arith) in
+    let m : length (drop a o) ≤ k = simp length-drop (omega arith) in
+    let w : mid_of a k p ≡ drop a o = ap (take k) d ∙ take_all k (drop a o) m in
+    let z : post_of a k p ≡ [] = ap (drop k) d ∙ drop_of_length-le (drop a o) m in
+    let y : a + length t ≡ length (s ++ t) = simp length-append (omega arith) in
+    simp (b, z, u, w, append-nil, append_assoc, drop-drop) (ap (λ (i : ℕ). s ++ (t ++ drop i o)) y)
 
-pub put_front : (t o : List ℕ) → length t ≤ length o → put 0 t o ≡ t ++ drop (length t) o
-put_front t o h = put_is 0 t o ∙ sets-eq t o 0 (omega arith) ∙ ap (λ (n : ℕ). t ++ drop n o) (zero-add (length t))
+-- ---- and a byte
+pub onto_byte : (a m : ℕ) (t o p : List ℕ) → length t ≡ a → a < length o → p ≡ onto t o → set p a m ≡ onto (t ++ (m ∷ [])) o
+onto_byte a m t o p e h f =
+    let d : suc a ≡ length (t ++ (m ∷ [])) = simp length-append (omega arith) in
+    let g : drop a o ≡ get_or o a 0 ∷ drop (suc a) o = drop-cons o a 0 h in
+    ap (λ (l : List ℕ). set l a m) (f ∙ ap (λ (n : ℕ). t ++ drop n o) e ∙ ap (λ (l : List ℕ). t ++ l) g)
+    ∙ set_at t (get_or o a 0) (drop (suc a) o) m a e ∙ simp append_assoc (ap (λ (n : ℕ). t ++ (m ∷ drop n o)) d)
 
-pub put-append : (at : ℕ) (s t o : List ℕ) → put at (s ++ t) o ≡ put (at + length s) t (put at s o)
-unfolding put
-put-append at [] t o = ap (λ (n : ℕ). put n t o) (omega arith)
-put-append at (b ∷ s) t o =
-    put-append (suc at) s t (set o at b) ∙ ap (λ (n : ℕ). put n t (put (suc at) s (set o at b))) (omega arith)
+-- ---- a digit of k that are still to come: all 16 at first, and none at the end
+pub digit_next : (k w : ℕ) (o : List ℕ) → 0 < k → k ≤ 16
+    → sets o (16 - k) (hex k w) ≡ sets (set o (15 - (k - 1)) (hex_digit (w / 2 ^ (4 * (k - 1)) % 16))) (16 - (k - 1)) (hex (k - 1) w)
+unfolding hex
+digit_next k w o p q =
+    let a : k ≡ suc (k - 1) = omega arith in
+    let b : 16 - k ≡ 15 - (k - 1) = omega arith in
+    let d : suc (15 - (k - 1)) ≡ 16 - (k - 1) = omega arith in
+    let u : List ℕ = set o (15 - (k - 1)) (hex_digit (w / 2 ^ (4 * (k - 1)) % 16)) in
+    ap (λ (n : ℕ). sets o n (hex k w)) b ∙ ap (λ (n : ℕ). sets o (15 - (k - 1)) (hex n w)) a ∙ ap (λ (n : ℕ). sets u n (hex (k - 1) w)) d
 
--- the same, for a text of a known length
-pub put_then : (at n : ℕ) (s t o : List ℕ) → length s ≡ n → put at (s ++ t) o ≡ put (at + n) t (put at s o)
-put_then at n s t o e = put-append at s t o ∙ ap (λ (k : ℕ). put (at + k) t (put at s o)) e
+pub digits_all : (w : ℕ) (o : List ℕ) → 16 ≤ length o → sets o 0 (hex 16 w) ≡ onto (hex 16 w) o
+digits_all w o h =
+    let n : length (hex 16 w) ≡ 16 = length-hex 16 w in
+    sets-eq (hex 16 w) o 0 (omega arith) ∙ simp n
 
--- ---- a text byte by byte: what is still to come at first, after a turn, and at the end
-pub put-none : (at : ℕ) (s o : List ℕ) → put at s o ≡ put (at + 0) (drop 0 s) o
-put-none at s o = ap (λ (n : ℕ). put n s o) (omega arith)
-
-pub put_byte : (at i : ℕ) (s o : List ℕ) → i < length s → put (at + i) (drop i s) o ≡ put (at + (i + 1)) (drop (i + 1) s) (set o (at + i) (get_or s i 0))
-unfolding put
-put_byte at i s o h =
-    let e : suc (at + i) ≡ at + (i + 1) = omega arith in
-    let u : List ℕ = set o (at + i) (get_or s i 0) in
-    ap (λ (t : List ℕ). put (at + i) t o) (drop-cons s i 0 h) ∙ ap (λ (n : ℕ). put n (drop (suc i) s) u) e
-    ∙ ap (λ (n : ℕ). put (at + (i + 1)) (drop n s) u) (sym (add-one i))
-
-pub put_all : (at i : ℕ) (s o : List ℕ) → length s ≤ i → put at (drop i s) o ≡ o
-unfolding put
-put_all at i s o h = ap (λ (t : List ℕ). put at t o) (drop_of_length-le s h)
-
--- ---- a digit of k that are still to come
-pub put-digit : (at k w : ℕ) (o : List ℕ) → 0 < k → k ≤ 16
-    → put (at + (16 - k)) (hex k w) o ≡ put (at + (16 - (k - 1))) (hex (k - 1) w) (set o (at + (15 - (k - 1))) (hex_digit (w / 2 ^ (4 * (k - 1)) % 16)))
-unfolding put hex
-put-digit at k w o p q =
-    let j : ℕ = k - 1 in
-    let u : List ℕ = set o (at + (15 - j)) (hex_digit (w / 2 ^ (4 * j) % 16)) in
-    let a : k ≡ suc j = omega arith in
-    let b : at + (16 - k) ≡ at + (15 - j) = omega arith in
-    let d : suc (at + (15 - j)) ≡ at + (16 - j) = omega arith in
-    ap (λ (n : ℕ). put n (hex k w) o) b ∙ ap (λ (n : ℕ). put (at + (15 - j)) (hex n w) o) a ∙ ap (λ (n : ℕ). put n (hex j w) u) d
-
-pub put-no-digit : (at k w : ℕ) (o : List ℕ) → k ≡ 0 → put at (hex k w) o ≡ o
-unfolding put hex
-put-no-digit at k w o e = ap (λ (n : ℕ). put at (hex n w) o) e
+pub digits_none : (k w : ℕ) (o p : List ℕ) → k ≡ 0 → 16 ≤ length o → sets o 0 (hex 16 w) ≡ sets p (16 - k) (hex k w) → p ≡ onto (hex 16 w) o
+unfolding hex
+digits_none k w o p e h i =
+    let a : 16 - k ≡ 16 = omega arith in
+    sym (ap (λ (n : ℕ). sets p (16 - k) (hex n w)) e) ∙ sym i ∙ digits_all w o h

@@ -1,15 +1,25 @@
 -- What the writers of a text, of pieces and of a refusal answer, and every byte that they leave in the output: a text that fits stands at its start, and
 -- the bytes after it stay; a refusal leaves all as it was. Definitions only.
-use Rattle.std.specs.Prelude.{◌≡◌, cond, List, ◌++◌, ℕ, leb, ltb, length, take, drop, Float}
-use Rattle.consts.specs.Refusal.{number, accepted, bad_list, no_room}
+use Rattle.std.specs.Prelude.{◌≡◌, cond, List, ◌++◌, ℕ, leb, ltb, length, take, drop, Float, Result, Ok, Err}
+use Rattle.consts.specs.declared.refusal.Refusal.{Refusal}
+use Rattle.consts.specs.Refusal.{number, accepted, bad_list, no_room, code}
 use Rattle.entries.specs.Lists.{whole}
-use Rattle.text.specs.declared.text.Written.{Written}
 use Rattle.text.specs.Text.{pieces_text, refused_text, refused_at_text, refused_at_line_text}
 
--- ---- any text
+-- What was written: the refusal number, and how many bytes stand at the start of the output; none under a refusal.
+pub record Written : Type 0 where
+  pub refusal : ℕ
+  pub count : ℕ
+
 abbrev pub refused_with : ℕ → Written
 refused_with n = record { refusal = n; count = 0 }
 
+-- what a result stands for
+abbrev pub written_of : Result ℕ Refusal → Written
+written_of (Ok n) = record { refusal = number accepted; count = n }
+written_of (Err r) = refused_with (code r)
+
+-- ---- any text
 unfoldable pub wrote : List ℕ → ℕ → Written
 wrote t room = cond (leb (length t) room) (record { refusal = number accepted; count = length t }) (refused_with (number no_room))
 

@@ -4,6 +4,4 @@
 
 mod text;
 
-pub use text::{
-    Written, write_pieces, write_refusal, write_refusal_at, write_refusal_at_line, write_text,
-};
+pub use text::{write_pieces, write_refusal, write_refusal_at, write_refusal_at_line, write_text};

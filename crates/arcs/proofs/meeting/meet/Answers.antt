@@ -4,13 +4,11 @@ use mathlib.Core.Path.{◌≡◌, refl, sym, ap, ◌∙◌}
 use mathlib.Core.Bool.{Bool, true, false, cond, ◌&&◌, false≢true}
 use mathlib.Core.List.{List, [], ◌∷◌}
 use native.Mathlib.Omega.{arith}
-use lib.ListN.{take}
 use lib.Ieee.{le}
 use Rattle.order.proofs.Ranks.{and_l, and_r}
 use Rattle.s1.specs.declared.interval.Interval.{Interval}
 use Rattle.arcs.specs.Clipping.{common}
 use Rattle.arcs.specs.Kinds.{rises, met}
-use Rattle.sort.specs.Arrays.{zip}
 use Rattle.arcs.proofs.Turns.{room_of}
 use Rattle.arcs.proofs.Rising.{left-common}
 use Rattle.arcs.proofs.meeting.meet.Goals as goal
@@ -34,8 +32,7 @@ none_found a b h e = sym (ap (λ (t : Bool). t && b) e) ∙ h
 
 pub meet_in-requires : goal.meet_in-requires
 meet_in-requires c =
-    let w = c.args in
-    room_of w.n w.west.now w.east.now w.lo.now w.hi.now (sym c.has_room.ensures ∙ and_l c.has_room.result _ c.if-has_room-x.true)
+    room_of c.args.arcs.now c.args.pieces.now (sym c.has_room.ensures ∙ and_l c.has_room.result _ c.if-has_room-x.true)
 
 pub returns-then-has_room-x : goal.returns-then-has_room-x
 returns-then-has_room-x c =
@@ -44,7 +41,7 @@ returns-then-has_room-x c =
     let yes = sym c.has_room.ensures ∙ and_l c.has_room.result _ t in
     let up = rises-as w.x (and_r c.has_room.result (le w.x.lo w.x.hi) t) in
     let m = c.meet_in.ensures in
-    let arcs = take w.n (zip w.west.now w.east.now) in
+    let arcs = w.arcs.now in
     record {
       found = λ h a. met_some w.x arcs _ up (m.is ∙ left-common w.x arcs m.others up (a up) m.permuted);
       few = λ h. m.few;
@@ -56,7 +53,7 @@ returns c =
     let w = c.args in
     let e = c.has_room.ensures in
     record {
-      found = λ h a. met-none w.x (take w.n (zip w.west.now w.east.now)) (none_found c.has_room.result (le w.x.lo w.x.hi) c.if-has_room-x.false (e ∙ h));
+      found = λ h a. met-none w.x w.arcs.now (none_found c.has_room.result (le w.x.lo w.x.hi) c.if-has_room-x.false (e ∙ h));
       few = λ h. omega arith;
-      none = λ h. (refl, refl, refl, refl, refl);
+      none = λ h. (refl, refl, refl);
     }

@@ -2,70 +2,38 @@
 -- else as they lie after `sort`. Assumes nothing.
 use mathlib.Core.Path.{◌≡◌, refl, sym, ap, ◌∙◌}
 use mathlib.Core.List.{List, [], ◌∷◌}
-use Prim.Native.Nat.{ℕ, ◌<◌}
 use native.Mathlib.Omega.{arith}
-use lib.ListN.{take, length-set}
+use lib.ListN.{length}
+use borrow.Author.Tests.{eqb-true}
 use Rattle.s1.specs.declared.interval.Interval.{Interval}
 use Rattle.arcs.specs.Clipping.{steps}
-use Rattle.sort.specs.Arrays.{zip}
 use Rattle.sort.specs.Permutations.{same}
-use Rattle.sort.proofs.Arrays.{holding}
-use Rattle.arcs.proofs.Turns.{first_one, room_as}
+use Rattle.arcs.proofs.Turns.{first_one}
 use Rattle.arcs.proofs.meeting.meet_in.Goals as goal
 
 -- by no arcs, the piece is left
-none-clips : (x : Interval) (arcs p : List Interval) (n : ℕ) → n ≡ 0 → p ≡ x ∷ [] → p ≡ steps (x ∷ []) (take n arcs)
+none-clips : (p arcs : List Interval) → length arcs ≡ 0 → p ≡ steps p arcs
 unfolding steps
-none-clips x arcs p n z h = h ∙ ap (λ (k : ℕ). steps (x ∷ []) (take k arcs)) (sym z)
+none-clips p [] h = refl
+none-clips p (a ∷ arcs) h = absurd (omega arith)
 
-positive : {n : ℕ} → (n ≡ 0 → ⊥) → 0 < n
-positive h = omega (arith, h)
-
-pub returns-then-n-eq0 : goal.returns-then-n-eq0
-returns-then-n-eq0 c =
+pub returns-then-is_empty : goal.returns-then-is_empty
+returns-then-is_empty c =
     let w = c.args in
-    let r = c.requires in
-    let arcs = zip w.west.now w.east.now in
     record {
-      others = take w.n arcs;
+      others = w.arcs.now;
       permuted = same;
-      is = none-clips w.x arcs _ w.n c.if-n-eq0.true (first_one w.lo.now w.hi.now w.x (omega (arith, r.pieces)) r.pieces-even);
+      is = first_one w.pieces.now w.x (omega (arith, c.requires.holds)) ∙ none-clips (w.x ∷ []) w.arcs.now (eqb-true (length w.arcs.now) 0 (sym c.is_empty.ensures ∙ c.if-is_empty.true));
       few = omega arith;
     }
 
-pub try_few-t-requires : goal.try_few-t-requires
-try_few-t-requires c = record { room = room_as c.requires refl refl (simp length-set) (simp length-set); n_nonzero = positive c.if-n-eq0.false }
-
-pub shape_of-lo-then-t-n : goal.shape_of-lo-then-t-n
-shape_of-lo-then-t-n c = simp length-set at c.try_few-t.auto.lo
-
-pub shape_of-hi-then-t-n : goal.shape_of-hi-then-t-n
-shape_of-hi-then-t-n c = simp length-set at c.try_few-t.auto.hi
-
-pub returns-then-t-n : goal.returns-then-t-n
-returns-then-t-n c =
+pub returns-in-Some : goal.returns-in-Some
+returns-in-Some c =
     let w = c.args in
-    let r = c.requires in
-    let t = c.try_few-t.ensures in
-    let arcs : List Interval = take w.n (zip w.west.now w.east.now) in
+    let t = c.in-Some.ensures in
     record {
-      others = arcs;
+      others = w.arcs.now;
       permuted = same;
-      is = t.is c.if-t-n.true ∙ ap (λ (l : List Interval). steps l arcs) (first_one w.lo.now w.hi.now w.x (omega (arith, r.pieces)) r.pieces-even);
+      is = t.is ∙ ap (λ (l : List Interval). steps l w.arcs.now) (first_one w.pieces.now w.x (omega (arith, c.requires.holds)));
       few = t.few;
     }
-
-pub sweep-requires : goal.sweep-requires
-sweep-requires c = record { room = room_as c.requires c.sort.auto.lo c.sort.auto.hi (simp length-set at c.try_few-t.auto.lo) (simp length-set at c.try_few-t.auto.hi); n_nonzero = positive c.if-n-eq0.false }
-
-pub shape_of-lo : goal.shape_of-lo
-shape_of-lo c = c.sweep.auto.lo ∙ (simp length-set at c.try_few-t.auto.lo)
-
-pub shape_of-hi : goal.shape_of-hi
-shape_of-hi c = c.sweep.auto.hi ∙ (simp length-set at c.try_few-t.auto.hi)
-
-pub returns : goal.returns
-returns c =
-    let s = c.sweep.ensures in
-    let r = c.requires in
-    record { others = _; permuted = c.sort.ensures.same-arcs (holding _ _ _ r.most r.arcs r.arcs-even); is = s.is; few = s.few }

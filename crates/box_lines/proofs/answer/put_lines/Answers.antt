@@ -1,25 +1,19 @@
--- `box_lines::answer::put_lines`: the lines of the pieces before the present one stand, and the others are still to come (`Standing`). The measure is what is
--- left of the pieces. Assumes nothing.
-use mathlib.Core.Path.{refl, ◌∙◌}
+-- `box_lines::answer::put_lines`: each piece is a turn of `Made`. Assumes nothing.
+use mathlib.Core.Path.{◌∙◌}
 use native.Mathlib.Omega.{arith}
-use Rattle.box_lines.proofs.Lined.{none-stand, one_more, all-stand}
+use Rattle.box_lines.proofs.Lined.{one_more, all-made}
 use Rattle.box_lines.proofs.answer.put_lines.Goals as goal
 
-pub loop-i-init : goal.loop-i-init
-loop-i-init c = (none-stand c.args.list.now c.args.pieces.now c.args.out.now, omega arith, refl)
-
-pub box_of-requires : goal.box_of-requires
-box_of-requires c = record { x_value = c.requires.x_value; i_in_bounds = omega (arith, c.loop-i.invariant.0.fours, c.requires.pieces_len.0) }
-
-pub loop-i-preserved : goal.loop-i-preserved
-loop-i-preserved c =
-    let a = c.args in (
-      one_more a.list.now a.pieces.now c.loop-i.out c.loop-i.n c.loop-i.i c.loop-i.invariant.0 c.box_of.result c.put_line-n.new.out c.put_line-n.result
-          (omega (arith, c.loop-i.invariant.0.fours, c.requires.pieces_len.0)) (omega (arith, c.loop-i.invariant.0.few, c.requires.pieces_len.1)) c.box_of.ensures
-          c.put_line-n.ensures.value c.put_line-n.ensures.upper_bound c.put_line-n.ensures.out_after,
-      omega (arith, c.loop-i.invariant.0.fours, c.requires.pieces_len.0),
-      c.put_line-n.auto.out ∙ c.loop-i.invariant.2,
+pub loop-piece-preserved : goal.loop-piece-preserved
+loop-piece-preserved c =
+    let z = c.in-Some.ensures.steps in
+    let k = z.1.1 ∙ c.loop-piece.invariant.1 in (
+      one_more _ _ _ _ c.loop-piece.invariant.0 c.in-Some.piece.now _ z.1.0 k c.box_of.result c.put_line.new.t.items c.box_of.ensures
+          c.put_line.ensures.items c.put_line.ensures.few,
+      z.0 ∙ c.loop-piece.invariant.1,
     )
 
 pub returns : goal.returns
-returns c = record { out_after = all-stand c.args.list.now c.args.pieces.now c.loop-i.out c.loop-i.n c.loop-i.i c.loop-i.invariant.0 (omega arith); upper_bound = omega (arith, c.loop-i.invariant.0.few, c.requires.pieces_len.1) }
+returns c =
+    let z = c.in-None.ensures.steps in
+    all-made _ _ _ _ c.loop-piece.invariant.0 (omega (arith, z.1.0, c.loop-piece.invariant.1))

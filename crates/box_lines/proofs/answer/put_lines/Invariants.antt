@@ -1,13 +1,9 @@
--- `box_lines::answer::put_lines`: the lines of the pieces before the present one stand, and the others are still to come (`Standing`). The measure is what is
--- left of the pieces. Assumes nothing.
+-- `box_lines::answer::put_lines`: the lines of the pieces so far are made (`Made`). Assumes nothing.
 use mathlib.Core.Path.{◌≡◌}
-use Prim.Native.Nat.{◌-◌, ◌≤◌}
-use lib.ListN.{length}
-use Rattle.box_lines.proofs.Lined.{Standing}
+use Rattle.std.specs.Slice.Iter.{chunks_exact_rest, chunks_exact_size}
+use Rattle.box_lines.proofs.Lined.{Made}
 use Rattle.box_lines.proofs.answer.put_lines.Given as goal
 
-abbrev pub invariant-loop-i : goal.invariant-loop-i
-invariant-loop-i l = Standing l.list l.pieces l.out l.n l.i × (l.i ≤ length l.pieces) × (length l.out ≡ length l.initial.out)
-
-abbrev pub decreases-loop-i : goal.decreases-loop-i
-decreases-loop-i l = length l.pieces - l.i
+abbrev pub invariant-loop-piece : goal.invariant-loop-piece
+invariant-loop-piece l =
+    Made l.edges.wholes.items l.pieces l.t.items (chunks_exact_rest l.piece-iterator) × (chunks_exact_size l.piece-iterator ≡ 4)

@@ -1,54 +1,53 @@
--- `box_lines::gather::gather`: the list holds the boxes of the lines read so far, and the rest of the text is still to be read (`Held`). The measure is what is
--- left of the text. Assumes nothing.
-use mathlib.Core.Path.{sym, ap, ◌∙◌, subst}
-use mathlib.Core.List.{List, [], ◌∷◌}
-use Prim.Native.Nat.{◌+◌, ◌*◌}
+-- `box_lines::gather::gather`: what `split_inclusive` cuts off is a line, but for its newline (`part`), and each line is a turn of `Held`. Assumes nothing.
+use Rattle.std.proofs.Common.{rules, ◌≡◌}
+use mathlib.Core.Path.{refl, sym, ap, ◌∙◌}
+use mathlib.Core.List.{List}
+use Prim.Native.Nat.{ℕ, ◌+◌, ◌<◌}
 use native.Mathlib.Omega.{arith}
-use lib.ListN.{length}
-use lib.Seq.{length-sets}
-use lib.IntN.{ℤ}
-use Rattle.box_lines.specs.Answers.{GLOBE, wholes}
-use Rattle.box_lines.specs.Inside.{none-there, all_read, one-refused, one-too-many}
-use Rattle.box_lines.proofs.Held.{Held, starts, good, bad, over, none, ends, all_held}
+use denote.Bor.{Bor}
+use Rattle.std.specs.Slice.Iter.{split_inclusive_rest}
+use Rattle.std.specs.Iterator.Adapters.{enumerate_source}
+use Rattle.std.specs.List.{IsFirstMatchOrLen}
+use Rattle.std.proofs.lemmas.List.Sorted.{answers_always}
+use Rattle.consts.specs.Refusal.{code}
+use Rattle.bbox.specs.Reading.{read_of}
+use Rattle.box_lines.specs.Lines.{Fault, line_of}
+use Rattle.box_lines.proofs.Cuts.{newline, Part, part, trimmed}
+use Rattle.box_lines.proofs.Held.{room, good, bad, over, ends}
 use Rattle.box_lines.proofs.gather.gather.Goals as goal
 
-pub loop-at-init : goal.loop-at-init
-loop-at-init c =
-    let a = c.args in
-    let e = c.put_box.ensures in (
-      subst (λ (l : List ℤ). Held a.s.now l 0 0) (sym e) (starts a.s.now a.list.now (omega (arith, c.requires))),
-      omega arith,
-      ap length e ∙ length-sets a.list.now 0 (wholes (GLOBE ∷ [])) ∙ c.requires,
-    )
+pub returns-then-k-eq512-clause-fault : goal.returns-then-k-eq512-clause-fault
+returns-then-k-eq512-clause-fault c =
+    let z = c.in-Some.ensures.steps in
+    over _ _ _ _ c.loop-k.invariant z.0.2 (sym z.1 ∙ c.if-k-eq512.true)
 
-pub returns-then-k-eq512 : goal.returns-then-k-eq512
-returns-then-k-eq512 c = one-too-many _ (over _ c.loop-at.list c.loop-at.at c.loop-at.k c.loop-at.invariant.0 (omega arith) c.if-k-eq512.true)
+pub add-requires : goal.add-requires
+add-requires c =
+    let z = c.in-Some.ensures.steps in
+    room _ _ _ _ c.loop-k.invariant (omega (arith, z.1, c.if-k-eq512.false, c.loop-k.invariant.few))
 
-pub returns-then-a-ne-ACCEPTED : goal.returns-then-a-ne-ACCEPTED
-returns-then-a-ne-ACCEPTED c =
-    let s = c.args.s.now in
-    let r = c.read-a.result in
-    one-refused r.refusal (c.loop-at.k + 1) c.loop-at.list
-    (bad s c.loop-at.list c.loop-at.at c.loop-at.k c.loop-at.invariant.0 c.line_end-end.result r (omega arith) (omega (arith, c.if-k-eq512.false)) c.line_end-end.ensures.value c.read-a.ensures c.if-a-ne-ACCEPTED.true)
-    (omega arith)
+pub loop-k-preserved : goal.loop-k-preserved
+loop-k-preserved c =
+    let z = c.in-Some.ensures.steps in
+    let u : List ℕ = split_inclusive_rest (enumerate_source c.loop-k.k-iterator) in
+    let t : List ℕ = split_inclusive_rest (enumerate_source c.next.new.self) in
+    let f : IsFirstMatchOrLen newline u z.0.1.0 = (z.0.1.2 newline (answers_always _ _ _ (λ f a r g h. search rules))).1 in
+    let p : Part u c.in-Some.line.now t = part u c.in-Some.line.now t z.0.0 z.0.1.0 f z.0.2 z.0.1.1 in
+    let e : c.unwrap_or.result.now ≡ line_of u = ap (λ (b : Bor (List ℕ)). b.now) c.unwrap_or.ensures ∙ trimmed p c.strip_suffix.result c.in-Some.line refl c.strip_suffix.ensures.cases in
+    let k : c.in-Some.k < 512 = omega (arith, z.1, c.if-k-eq512.false, c.loop-k.invariant.few) in
+    good _ _ _ _ c.loop-k.invariant c.in-Ok.b _ _ _ z.0.2 (omega (arith, z.1, k)) (c.in-Ok.ensures ∙ ap read_of e) c.add.ensures p.rest z.2
 
-pub loop-at-preserved : goal.loop-at-preserved
-loop-at-preserved c =
-    let s = c.args.s.now in
-    let r = c.read-a.result in
-    let e = c.put_box-in-loop-at.ensures in
-    let one_more =
-    good s c.loop-at.list c.loop-at.at c.loop-at.k c.loop-at.invariant.0 c.line_end-end.result r (omega arith) (omega (arith, c.if-k-eq512.false)) c.line_end-end.ensures.value c.read-a.ensures
-    c.loop-at.invariant.2 c.if-a-ne-ACCEPTED.false in (
-      subst (λ (l : List ℤ). Held s l (c.line_end-end.result + 1) (c.loop-at.k + 1)) (sym e) one_more,
-      omega arith,
-      ap length e ∙ length-sets c.loop-at.list (4 * (c.loop-at.k + 1)) (wholes (r.value ∷ [])) ∙ c.loop-at.invariant.2,
-    )
+pub returns-in-Err-clause-fault : goal.returns-in-Err-clause-fault
+returns-in-Err-clause-fault c =
+    let z = c.in-Some.ensures.steps in
+    let u : List ℕ = split_inclusive_rest (enumerate_source c.loop-k.k-iterator) in
+    let t : List ℕ = split_inclusive_rest (enumerate_source c.next.new.self) in
+    let f : IsFirstMatchOrLen newline u z.0.1.0 = (z.0.1.2 newline (answers_always _ _ _ (λ f a r g h. search rules))).1 in
+    let p : Part u c.in-Some.line.now t = part u c.in-Some.line.now t z.0.0 z.0.1.0 f z.0.2 z.0.1.1 in
+    let e : c.unwrap_or.result.now ≡ line_of u = ap (λ (b : Bor (List ℕ)). b.now) c.unwrap_or.ensures ∙ trimmed p c.strip_suffix.result c.in-Some.line refl c.strip_suffix.ensures.cases in
+    let k : c.in-Some.k < 512 = omega (arith, z.1, c.if-k-eq512.false, c.loop-k.invariant.few) in
+    let b = bad _ _ _ _ c.loop-k.invariant c.in-Err.refusal z.0.2 (omega (arith, z.1, k)) (c.in-Err.ensures ∙ ap read_of e) in
+    (b ∙ ap (λ (n : ℕ). Fault (code c.in-Err.refusal) (n + 1)) (sym z.1), omega (arith, k))
 
-pub returns-then-k-eq0 : goal.returns-then-k-eq0
-returns-then-k-eq0 c = none-there c.loop-at.list (none _ c.loop-at.list c.loop-at.at c.loop-at.k c.loop-at.invariant.0 (omega arith) c.if-k-eq0.true)
-
-pub returns : goal.returns
-returns c =
-    let h = c.loop-at.invariant.0 in
-    all_read h.boxes c.loop-at.k c.loop-at.list (ends _ c.loop-at.list c.loop-at.at c.loop-at.k h (omega arith) c.if-k-eq0.false) h.many (all_held _ c.loop-at.list c.loop-at.at c.loop-at.k h (omega arith))
+pub returns-clause-boxes : goal.returns-clause-boxes
+returns-clause-boxes c = ends _ _ _ _ c.loop-k.invariant (sym c.is_empty.ensures ∙ c.if-is_empty.false) c.in-None.ensures.steps.0.0

@@ -5,10 +5,10 @@ use Rattle.lists.specs.Rects.{numbers_of}
 use Rattle.c_records.specs.Boxes.{box_left}
 use Rattle.c_records.proofs.boxes.keep.Goals as goal
 
-pub returns-then-a-eq-ACCEPTED : goal.returns-then-a-eq-ACCEPTED
+pub returns-then-a-eq0 : goal.returns-then-a-eq0
 unfolding box_left numbers_of
-returns-then-a-eq-ACCEPTED c = record { answers = refl; leaves = simp (eq-eqb _ _ c.if-a-eq-ACCEPTED.true) }
+returns-then-a-eq0 c = record { answers = refl; leaves = simp (eq-eqb _ _ c.if-a-eq0.true) }
 
-pub returns-else-a-eq-ACCEPTED : goal.returns-else-a-eq-ACCEPTED
+pub returns-else-a-eq0 : goal.returns-else-a-eq0
 unfolding box_left
-returns-else-a-eq-ACCEPTED c = record { answers = refl; leaves = simp (ne_eqb _ _ c.if-a-eq-ACCEPTED.false) }
+returns-else-a-eq0 c = record { answers = refl; leaves = simp (ne_eqb _ _ c.if-a-eq0.false) }

@@ -2,25 +2,20 @@
 -- the rest's. Assumes nothing.
 use mathlib.Core.Path.{◌≡◌}
 use mathlib.Core.List.{◌++◌}
-use Prim.Native.Nat.{◌-◌, ◌*◌, ◌%◌, ◌≤◌}
-use lib.ListN.{length, drop, take}
+use Prim.Native.Nat.{◌*◌, ◌≤◌}
+use lib.ListN.{drop, take}
 use Rattle.s1.specs.Circle.{FULL}
 use Rattle.s2.specs.Zone.{LATITUDES}
 use Rattle.lists.specs.Rects.{rects_of, as_read_all}
 use Rattle.lists.specs.Refused.{first_refused}
 use Rattle.arcs.specs.Kinds.{risen, crossing}
-use Rattle.sort.specs.Arrays.{zip}
 use Rattle.region.specs.Region.{band_from, lngs}
 use Rattle.region.proofs.Turns.{arcs_from}
 use Rattle.region.proofs.reading.read_arcs.Given as goal
 
 abbrev pub invariant-loop-i : goal.invariant-loop-i
-invariant-loop-i l = (risen l.lng (arcs_from l.list l.i) ≡ risen FULL (lngs (as_read_all (rects_of l.list))))
-    × (take l.k (zip l.west l.east) ++ crossing (arcs_from l.list l.i) ≡ crossing (lngs (as_read_all (rects_of l.list))))
-    × (band_from l.lat (as_read_all (rects_of (drop l.i l.list))) ≡ band_from LATITUDES (as_read_all (rects_of l.list)))
-    × (first_refused (rects_of l.list) ≡ first_refused (rects_of (drop l.i l.list)))
-    × (4 * l.k ≤ l.i) × (l.i % 4 ≡ 0) × (l.i ≤ length l.list) × (l.n ≡ length l.list) × (length l.list % 4 ≡ 0) × (length l.list ≤ 4 * length l.west)
-    × (length l.west ≡ length l.east) × (length l.west ≡ length l.initial.west) × (length l.east ≡ length l.initial.east)
-
-abbrev pub decreases-loop-i : goal.decreases-loop-i
-decreases-loop-i l = length l.list - l.i
+invariant-loop-i l = (risen l.lng (arcs_from l.list (4 * l.i)) ≡ risen FULL (lngs (as_read_all (rects_of l.list))))
+    × (take l.count l.arcs ++ crossing (arcs_from l.list (4 * l.i)) ≡ crossing (lngs (as_read_all (rects_of l.list))))
+    × (band_from l.lat (as_read_all (rects_of (drop (4 * l.i) l.list))) ≡ band_from LATITUDES (as_read_all (rects_of l.list)))
+    × (first_refused (rects_of l.list) ≡ first_refused (rects_of (drop (4 * l.i) l.list)))
+    × (l.count ≤ l.i)

@@ -2,15 +2,11 @@
 -- proofs/Written.antt. Assumes nothing.
 use mathlib.Core.Path.{◌≡◌}
 use mathlib.Core.List.{◌++◌}
-use Prim.Native.Nat.{◌-◌, ◌*◌, ◌≤◌}
-use lib.ListN.{length, drop, take}
-use Rattle.sort.specs.Arrays.{zip}
+use Prim.Native.Nat.{◌*◌}
+use lib.ListN.{drop, take}
 use Rattle.region.specs.Region.{across}
 use Rattle.lists.specs.Rects.{numbers_of}
 use Rattle.region.proofs.region.write_out.Given as goal
 
 abbrev pub invariant-loop-k : goal.invariant-loop-k
-invariant-loop-k l = (l.out ≡ numbers_of (across l.b (take l.k (zip l.lo l.hi))) ++ drop (4 * l.k) l.initial.out) × (l.k ≤ l.n) × (l.n ≤ 1024) × (l.n ≤ length l.lo) × (length l.lo ≡ length l.hi) × (4 * l.n ≤ length l.initial.out) × (length l.out ≡ length l.initial.out)
-
-abbrev pub decreases-loop-k : goal.decreases-loop-k
-decreases-loop-k l = l.n - l.k
+invariant-loop-k l = l.out ≡ numbers_of (across l.b (take l.k l.pieces)) ++ drop (4 * l.k) l.initial.out

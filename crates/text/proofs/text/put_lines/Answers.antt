@@ -1,22 +1,31 @@
--- `text::text::put_lines`: the lines still to come, from the present place on into the present output, make the whole. The measure is what is left of
--- the list. Assumes nothing.
-use mathlib.Core.Path.{refl, sym, ◌∙◌}
-use Prim.Native.Nat.{◌+◌, ◌*◌}
+-- `text::text::put_lines`: the line of a piece stands right behind those of the pieces before it. Assumes nothing.
+use mathlib.Core.Path.{◌≡◌, refl, ap, ◌∙◌}
+use mathlib.Core.List.{List, []}
+use Prim.Native.Nat.{ℕ, ◌+◌, ◌*◌, ◌/◌, ◌≤◌, ◌<◌}
 use native.Mathlib.Omega.{arith}
-use Rattle.text.proofs.Lines.{lines_none, lines-turn, lines-all}
+use lib.ListN.{length, take, drop, get_or, length-drop}
+use lib.Seq.{length-take-le}
+use lib.Ieee.{Float}
+use Rattle.text.specs.Text.{lines_text}
+use Rattle.text.specs.Inside.{onto}
+use Rattle.text.proofs.Lengths.{length-lines}
+use Rattle.text.proofs.Lines.{lines_more, piece-at}
+use Rattle.text.proofs.Puts.{onto_then}
 use Rattle.text.proofs.text.put_lines.Goals as goal
-
-pub loop-i-init : goal.loop-i-init
-loop-i-init c =
-    let a = c.args in
-    (lines_none a.at a.list.now a.out.now, omega arith, omega arith, refl)
 
 pub loop-i-preserved : goal.loop-i-preserved
 loop-i-preserved c =
-    let a = c.args in
-    (c.loop-i.invariant.0 ∙ lines-turn a.at c.loop-i.i a.list.now c.loop-i.out c.put_line.new.out (omega arith) c.put_line.ensures, omega arith, omega arith, omega arith)
-
-pub returns : goal.returns
-returns c =
-    let a = c.args in
-    sym (c.loop-i.invariant.0 ∙ lines-all (a.at + 17 * c.loop-i.i) c.loop-i.i a.list.now c.loop-i.out (omega arith))
+    let l : List Float = c.args.list.now in
+    let o : List ℕ = c.args.out.now in
+    let i : ℕ = c.loop-i.i in
+    let s : List ℕ = lines_text (take (4 * i) l) in
+    let t : List ℕ = lines_text (take 4 (drop (4 * i) l)) in
+    let h : i < length l / 4 = omega (arith, c.as_chunks.ensures.front_len) in
+    let e = ap (λ (x : List (List Float)). get_or x i []) c.as_chunks.ensures.front ∙ piece-at (length l / 4) i l h in
+    let k : 4 * i + 4 ≤ length l = omega arith in
+    let m : length (take (4 * i) l) ≡ 4 * i = length-take-le (4 * i) l (omega arith) in
+    let n : length (take 4 (drop (4 * i) l)) ≡ 4 = length-take-le 4 (drop (4 * i) l) (simp length-drop (omega arith)) in
+    let a : length s ≡ 68 * i = omega (arith, length-lines (take (4 * i) l)) in
+    let b : 68 * i + length t ≤ length o = omega (arith, length-lines (take 4 (drop (4 * i) l))) in
+    onto_then (68 * i) _ s t o _ _ a b c.loop-i.invariant refl (rw e at c.put_line.ensures)
+    ∙ ap (λ (w : List ℕ). onto w o) (lines_more l i k)

@@ -1,42 +1,26 @@
--- `text::text::write_where`: by the test of the place; the three texts one after the other are the whole, and the count that is compared with the room is
--- its length. Assumes nothing.
-use mathlib.Core.Path.{◌≡◌, ap, ◌∙◌}
-use mathlib.Core.List.{List}
-use Prim.Native.Nat.{ℕ, ◌+◌, ◌<◌}
+-- `text::text::write_where`: the three texts, each right behind the one before it. Assumes nothing.
+use mathlib.Core.Path.{◌≡◌, refl, ◌∙◌}
+use mathlib.Core.List.{List, ◌++◌}
+use Prim.Native.Nat.{ℕ, ◌+◌, ◌≤◌}
 use native.Mathlib.Omega.{arith}
-use borrow.Author.Tests.{lt-ltb, le-ltb}
+use borrow.Author.Tests.{lt-ltb}
 use lib.ListN.{length}
-use Rattle.text.specs.Text.{decimal_text, head_text, refused_where}
-use Rattle.text.specs.Inside.{put}
-use Rattle.text.proofs.Lengths.{length-where}
-use Rattle.text.proofs.Lines.{put-where}
-use Rattle.text.proofs.Answered.{wrote-fits, wrote_none, left-fits, left-none}
+use Rattle.text.specs.Text.{REFUSED, decimal_text, head_text, refused_where}
+use Rattle.text.proofs.Answered.{left-fits}
+use Rattle.text.proofs.Lengths.{length-head, length-where}
+use Rattle.text.proofs.Puts.{onto_then}
 use Rattle.text.proofs.text.write_where.Goals as goal
 
-pub returns-then-place-ge1000 : goal.returns-then-place-ge1000
-returns-then-place-ge1000 c =
-    let h = le-ltb c.args.place 1000 c.if-place-ge1000.true in
-    record { value = simp h; out_after = simp h }
-
-pub returns-then-out-count : goal.returns-then-out-count
-returns-then-out-count c =
-    let a = c.args in
-    let o : List ℕ = a.out.now in
-    let t : List ℕ = refused_where a.words.now a.n a.place in
-    let u = lt-ltb a.place 1000 c.if-place-ge1000.false in
-    let l = length-where a.words.now a.n a.place in
-    let h : length o < length t = omega (arith, l, c.width.ensures.value, c.width-at.ensures.value) in
-    record { value = simp u (wrote_none t (length o) h); out_after = simp u (left-none t o h) }
-
-pub returns : goal.returns
-returns c =
-    let a = c.args in
-    let l : List ℕ = a.words.now in
-    let o : List ℕ = a.out.now in
-    let t : List ℕ = refused_where l a.n a.place in
-    let w : ℕ = c.width-at.result in
-    let k : ℕ = 8 + w + length l + c.width.result + 1 in
-    let u = lt-ltb a.place 1000 c.if-place-ge1000.false in
-    let e : length t ≡ k = omega (arith, length-where l a.n a.place, c.width.ensures.value, c.width-at.ensures.value) in
-    let p = c.put_decimal.ensures ∙ ap (λ (q : List ℕ). put 8 (decimal_text a.n) q) c.put_text.ensures in
-    record { value = simp u (wrote-fits t k (length o) e (omega arith)); out_after = simp u (c.put_head.ensures ∙ ap (λ (q : List ℕ). put (8 + w) (head_text l a.place) q) p ∙ put-where l a.n a.place w o c.width-at.ensures.value ∙ left-fits t o (omega arith)) }
+pub returns-clause-out_after : goal.returns-clause-out_after
+returns-clause-out_after c =
+    let o : List ℕ = c.args.out.now in
+    let s : List ℕ = decimal_text c.args.n in
+    let t : List ℕ = head_text c.args.words.now c.args.place in
+    let u : List ℕ = refused_where c.args.words.now c.args.n c.args.place in
+    let r : 8 + c.width-at.result + length c.args.words.now + c.width.result + 1 ≤ length o = c.in_ok-test_room.ensures.room in
+    let h : length u ≤ length o = omega (arith, length-where c.args.words.now c.args.n c.args.place, c.width.ensures.value, c.width-at.ensures.value) in
+    let e : length (REFUSED ++ s) ≡ 8 + c.width-at.result = omega (arith, c.width-at.ensures.value) in
+    let f = onto_then 8 _ REFUSED s o _ _ refl (omega (arith, c.width-at.ensures.value)) c.put_text.ensures refl c.put_decimal.ensures in
+    let g : 8 + c.width-at.result + length t ≤ length o = omega (arith, length-head c.args.words.now c.args.place, c.width.ensures.value) in
+    simp (lt-ltb c.args.place 1000 c.if-place-ge1000.false)
+    (onto_then _ _ (REFUSED ++ s) t o _ _ e g f refl c.put_head.ensures ∙ left-fits u o h)

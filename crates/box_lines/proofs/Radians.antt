@@ -1,0 +1,62 @@
+-- Whole numbers in radians: how many there are, one more of them, and the first one whose radians are a given number, which stands at the place where that
+-- number is found. By induction on the list. Assumes nothing.
+use mathlib.Core.Path.{◌≡◌, refl, ap, ◌∙◌}
+use mathlib.Core.Bool.{Bool, true, false, not, cond}
+use mathlib.Core.List.{List, [], ◌∷◌, ◌++◌}
+use Prim.Native.Nat.{ℕ, suc, ◌+◌, ◌<◌}
+use native.Mathlib.Omega.{arith}
+use borrow.Author.Tests.{lt-ltb}
+use lib.Dec.{leb-suc-suc}
+use lib.ListN.{length, get_or}
+use lib.IntN.{ℤ, pos}
+use lib.Ieee.{Float, eq, nan}
+use Rattle.std.specs.Prelude.{Option, Some, None, nat_lt}
+use Rattle.std.specs.List.{position, position_or_len}
+use Rattle.std.proofs.lemmas.List.Quantifiers.{position-Some}
+use Rattle.degrees.specs.Degrees.{radians}
+use Rattle.box_lines.specs.Answers.{in_radians, whole_of}
+
+pub length_radians : (l : List ℤ) → length (in_radians l) ≡ length l
+unfolding in_radians
+length_radians [] = refl
+length_radians (w ∷ l) = ap suc (length_radians l)
+
+pub radians_more : (l : List ℤ) (w : ℤ) → in_radians (l ++ (w ∷ [])) ≡ in_radians l ++ (radians w ∷ [])
+unfolding in_radians
+radians_more [] w = refl
+radians_more (a ∷ l) w = ap (λ (t : List Float). radians a ∷ t) (radians_more l w)
+
+-- ---- looking
+pub position-under : (p : Float → Bool) (xs : List Float) (i : ℕ) → position p xs ≡ Some i → i < length xs
+position-under p xs i e = (position-Some p xs i nan e).0
+
+abbrev pub number_at : List ℤ → Option ℕ → ℤ
+number_at ws None = pos 0
+number_at ws (Some i) = get_or ws i (pos 0)
+
+pub looked : (ws : List ℤ) (v : Float) → number_at ws (position (λ (x : Float). eq x v) (in_radians ws)) ≡ whole_of ws v
+unfolding in_radians whole_of
+looked [] v = refl
+looked (w ∷ ws) v = go (eq (radians w) v) (looked ws v)
+  where
+    n : ℕ
+    n = position_or_len (λ (x : Float). eq x v) (in_radians ws)
+
+    m : ℕ
+    m = length (in_radians ws)
+
+    next : (t : Bool) → number_at (w ∷ ws) (cond t (Some (suc n)) None) ≡ number_at ws (cond t (Some n) None)
+    next true = refl
+    next false = refl
+
+    one-more : 1 + n ≡ suc n
+    one-more = omega arith
+
+    before : nat_lt (suc n) (suc m) ≡ nat_lt n m
+    before = leb-suc-suc (suc n) m
+
+    go : (t : Bool) → number_at ws (cond (nat_lt n m) (Some n) None) ≡ whole_of ws v
+        → number_at (w ∷ ws) (cond (nat_lt (cond (not t) (1 + n) 0) (suc m)) (Some (cond (not t) (1 + n) 0)) None) ≡ cond t w (whole_of ws v)
+    go true h = ap (λ (t : Bool). number_at (w ∷ ws) (cond t (Some 0) None)) (lt-ltb 0 (suc m) (omega arith))
+    go false h = ap (λ (k : ℕ). number_at (w ∷ ws) (cond (nat_lt k (suc m)) (Some k) None)) one-more
+        ∙ ap (λ (t : Bool). number_at (w ∷ ws) (cond t (Some (suc n)) None)) before ∙ next (nat_lt n m) ∙ h

@@ -1,7 +1,0 @@
--- `s2::reading::read_with_margins`: at each return the answer is the definition's, under the tests that led there. Assumes nothing.
-use Rattle.s2.specs.Reading.{read_with_margins}
-use Rattle.s2.proofs.reading.read_with_margins.Goals as goal
-
-pub returns : goal.returns
-unfolding read_with_margins
-returns c = simp (← c.first_refusal-refusal.ensures, ← c.read_margins-b.ensures, ← c.read_one-a.ensures)
