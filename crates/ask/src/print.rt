@@ -119,7 +119,7 @@ fn refusal(n: u8, out: &mut Answers)
     requires { HasRoom out.old 20 }
     ensures { GrewBy out.old out.new 20 }
 {
-    decimal(n as u64, out);
+    decimal(n.into(), out);
 }
 
 // Puts a refusal number, with ` at ` and its entry where it is one of an entry, and the count 0.

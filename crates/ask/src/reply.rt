@@ -1,5 +1,5 @@
-// What a question is answered with, before it is text: a refusal number, and the result that stands beside it,
-// as C is handed them.
+// What a question is answered with, before it is text: a refusal number, and the result that stands beside it.
+// The protocol writes both, as C is handed them: so it is no `Result`.
 use consts::{Number, Refusal, YesNo};
 
 #[derive(Clone, Copy)]

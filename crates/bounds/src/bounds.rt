@@ -27,7 +27,7 @@ pub struct Bounds {
 fn is_within(limit: u32, z: i64) -> bool
     ensures { result ≡ within limit z }
 {
-    let limit = limit as i64;
+    let limit = i64::from(limit);
     (-limit..=limit).contains(&z)
 }
 

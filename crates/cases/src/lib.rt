@@ -45,7 +45,7 @@ fn digit_of(b: u8) -> usize
     ensures value { result ≡ digit b }
     ensures upper_bound { result ≤ 15 }
 {
-    (b % 16) as usize
+    usize::from(b % 16)
 }
 
 // The number of two digits at a place.

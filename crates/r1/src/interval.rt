@@ -13,9 +13,9 @@
 // See the License for the specific language governing permissions and
 // limitations under the License.
 //
-// The line interval. Every operation reads its operands (reading.rt) and answers with its refusal
-// number and, beside it, the result that document 01 states; what it does with operands that have
-// been read is in line.rt.
+// The line interval. Every operation reads its operands (reading.rt) and answers a `Result`; what document 01
+// states beside a refusal is in `Answer`, which C is handed. What an operation does with operands that have been
+// read is in line.rt.
 // ported from src/r1/interval.rs of s2 0.2.0, changed: by value, with refusals; no printing, no serde.
 ghost use Rattle.std.specs.Prelude.{◌≡◌};
 ghost use Rattle.consts.specs.Answer.{yes_no_of, number_of};
@@ -38,7 +38,8 @@ pub struct Interval {
     pub hi: f64,
 }
 
-// An interval as an answer, as C has it. A refused one is the standard empty, or what growth was handed.
+// An interval as an answer, as C has it. A refused one is the standard empty, or what growth was
+// handed. (A generic struct would do for every layer, but an export may not hand one out.)
 #[repr(C)]
 #[derive(Clone, Copy)]
 pub struct Answer {
@@ -303,7 +304,7 @@ impl Interval {
         Ok(line::add(i, read_point(p)?))
     }
 
-    // Returns true iff the interval contains the same points as other.
+    // Returns true iff the interval contains the same points as other. (No `PartialEq`: operands are refused.)
     // Laws: Places.equal-places.
     // Ruled out: of the empty [1, 0] and [2, 0]: no; of [0, 1] and [0, 2]: yes.
     pub fn eq(self, other: Interval) -> Result<bool, Refusal>

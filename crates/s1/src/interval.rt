@@ -13,9 +13,9 @@
 // See the License for the specific language governing permissions and
 // limitations under the License.
 //
-// The circle interval. Every operation reads its operands (reading.rt) and answers with its refusal
-// number and, beside it, the result that document 01 states; what it does with operands that have
-// been read is in circle.rt. The theorems that a comment names are in proofs/Promises.antt.
+// The circle interval. Every operation reads its operands (reading.rt) and answers a `Result`; what document 01
+// states beside a refusal is in `Answer`, which C is handed. What an operation does with operands that have been
+// read is in circle.rt. The theorems that a comment names are in proofs/Promises.antt.
 // ported from src/s1/interval.rs of s2 0.2.0, changed: by value, with refusals; no printing, no serde.
 ghost use Rattle.std.specs.Prelude.{◌≡◌};
 ghost use Rattle.consts.specs.Answer.{yes_no_of, number_of};
@@ -41,7 +41,8 @@ pub struct Interval {
     pub hi: f64,
 }
 
-// An interval as an answer, as C has it. A refused one is the empty interval, or what growth was handed.
+// An interval as an answer, as C has it. A refused one is the empty interval, or what growth was
+// handed. (Not generic: see r1.)
 #[repr(C)]
 #[derive(Clone, Copy)]
 pub struct Answer {
@@ -402,7 +403,8 @@ impl Interval {
         Ok(circle::add(i, read_point(p)?))
     }
 
-    // Returns true iff the interval contains the same points as other. Over places: equal-exactly.
+    // Returns true iff the interval contains the same points as other. Over places: equal-exactly. (No `PartialEq`:
+    // operands are refused.)
     // Laws: Places.equal-places, Places.equal-numbers.
     // Ruled out: of FULL and [C00921FB54442D17, PI]: yes; of [0, 1] and itself: no.
     pub fn eq(self, other: Interval) -> Result<bool, Refusal>

@@ -1,6 +1,6 @@
-// The rectangle of latitudes and longitudes. Every operation reads its operands (reading.rt) and answers
-// with its refusal number and, beside it, the result that document 01 states; what it does with
-// operands that have been read is in zone.rt.
+// The rectangle of latitudes and longitudes. Every operation reads its operands (reading.rt) and answers a
+// `Result`; what document 01 states beside a refusal is in `Answer` and `PointAnswer`, which C is handed. What an
+// operation does with operands that have been read is in zone.rt.
 //
 // The original file has no copyright lines of its own; NOTICE has the crate's.
 // ported from src/s2/rect.rs of s2 0.2.0, changed: by value, with refusals; nothing that goes through a
@@ -37,7 +37,8 @@ pub struct Rect {
     pub lng: Circle,
 }
 
-// A rectangle as an answer, as C has it. A refused one is the standard empty, or what growth was handed.
+// A rectangle as an answer, as C has it. A refused one is the standard empty, or what growth was
+// handed. (Not generic: see r1.)
 #[repr(C)]
 #[derive(Clone, Copy)]
 pub struct Answer {
@@ -386,7 +387,7 @@ impl Rect {
         Ok(zone::add(start, read_point(p)?))
     }
 
-    // Returns true iff the rectangle contains the same points as other.
+    // Returns true iff the rectangle contains the same points as other. (No `PartialEq`: operands are refused.)
     // Laws: Places.equal-places.
     // Ruled out: of the standard empty and [0, -1] by EMPTY: no; of the full one and [-PI/2, PI/2]
     // by [C00921FB54442D17, PI]: yes.

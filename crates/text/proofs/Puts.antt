@@ -1,17 +1,28 @@
 -- Laws of texts at the start of the output: its length stays; a byte or a text that is put right behind such a text makes one text with it; and the digits of
--- a number, put one by one. Assumes nothing.
-use mathlib.Core.Path.{◌≡◌, sym, ap, ◌∙◌}
-use mathlib.Core.List.{List, [], ◌∷◌, ◌++◌, append_assoc}
-use Prim.Native.Nat.{ℕ, suc, ◌+◌, ◌-◌, ◌*◌, ◌/◌, ◌%◌, ◌^◌, ◌≤◌, ◌<◌}
+-- the kit's libraries `hex` and `io` are those of the specs. Assumes nothing.
+use mathlib.Core.Path.{◌≡◌, refl, sym, ap, ◌∙◌}
+use mathlib.Core.List.{List, [], ◌∷◌, ◌++◌, append_assoc, map}
+use Prim.Native.Nat.{ℕ, zero, suc, ◌+◌, ◌-◌, ◌*◌, ◌/◌, ◌%◌, ◌^◌, ◌≤◌, ◌<◌}
+use native.Mathlib.Nat.{pow-suc, div-one, div-div-eq-div-mul, pow-le-pow_right}
 use native.Mathlib.Omega.{arith}
 use borrow.Rule.Slice.PartMut.{put_mid, mid_of, post_of}
+use lib.Dec.{lit<}
+use lib.Ieee.{Float}
 use lib.ListN.{length, take, drop, get_or, set, length-append, length-drop, drop_of_length-le}
-use lib.Seq.{sets, sets-eq, drop-drop, drop-cons, take_at, drop_at}
+use lib.Pow.{pow-add}
+use lib.Seq.{drop-drop, drop-cons, take_at, drop_at}
 use Rattle.std.proofs.Common.{append-nil, take_all}
+use Rattle.std.proofs.lemmas.Bool.Decides.{nat_tests}
 use Rattle.std.proofs.lemmas.List.{set_at}
-use Rattle.text.specs.Text.{hex_digit, hex}
+use Rattle.std.specs.Char.{to_ascii_uppercase}
+use Rattle.bits.specs.Pattern.{to_pattern}
+use Rattle.std.specs.Int.{bytes_high_first, byte_at}
+use Rattle.std.specs.Prelude.{slice_index}
+use Rattle.hex.specs.Hex.{encode_with, encode_lower, lower_digits}
+use Rattle.io.specs.Digits.{last_digits}
+use Rattle.text.specs.Text.{hex_digit, hex, number_text, decimal_text}
 use Rattle.text.specs.Inside.{onto}
-use Rattle.text.proofs.Lengths.{length-hex}
+use Rattle.text.proofs.Lengths.{length-number}
 
 pub length-onto : (t o : List ℕ) → length t ≤ length o → length (onto t o) ≡ length o
 length-onto t o h = simp (length-append, length-drop) (omega arith)
@@ -38,24 +49,76 @@ onto_byte a m t o p e h f =
     ap (λ (l : List ℕ). set l a m) (f ∙ ap (λ (n : ℕ). t ++ drop n o) e ∙ ap (λ (l : List ℕ). t ++ l) g)
     ∙ set_at t (get_or o a 0) (drop (suc a) o) m a e ∙ simp append_assoc (ap (λ (n : ℕ). t ++ (m ∷ drop n o)) d)
 
--- ---- a digit of k that are still to come: all 16 at first, and none at the end
-pub digit_next : (k w : ℕ) (o : List ℕ) → 0 < k → k ≤ 16
-    → sets o (16 - k) (hex k w) ≡ sets (set o (15 - (k - 1)) (hex_digit (w / 2 ^ (4 * (k - 1)) % 16))) (16 - (k - 1)) (hex (k - 1) w)
-unfolding hex
-digit_next k w o p q =
-    let a : k ≡ suc (k - 1) = omega arith in
-    let b : 16 - k ≡ 15 - (k - 1) = omega arith in
-    let d : suc (15 - (k - 1)) ≡ 16 - (k - 1) = omega arith in
-    let u : List ℕ = set o (15 - (k - 1)) (hex_digit (w / 2 ^ (4 * (k - 1)) % 16)) in
-    ap (λ (n : ℕ). sets o n (hex k w)) b ∙ ap (λ (n : ℕ). sets o (15 - (k - 1)) (hex n w)) a ∙ ap (λ (n : ℕ). sets u n (hex (k - 1) w)) d
+-- ---- the digits of the kit's `hex`, which are in lower case: raised, they are those of `hex` here
+upper_digit : (d : ℕ) → d < 16 → to_ascii_uppercase (slice_index lower_digits d) ≡ hex_digit d
+unfolding hex_digit
+upper_digit zero h = refl
+upper_digit (suc zero) h = refl
+upper_digit (suc (suc zero)) h = refl
+upper_digit (suc (suc (suc zero))) h = refl
+upper_digit (suc (suc (suc (suc zero)))) h = refl
+upper_digit (suc (suc (suc (suc (suc zero))))) h = refl
+upper_digit (suc (suc (suc (suc (suc (suc zero)))))) h = refl
+upper_digit (suc (suc (suc (suc (suc (suc (suc zero))))))) h = refl
+upper_digit (suc (suc (suc (suc (suc (suc (suc (suc zero)))))))) h = refl
+upper_digit (suc (suc (suc (suc (suc (suc (suc (suc (suc zero))))))))) h = refl
+upper_digit (suc (suc (suc (suc (suc (suc (suc (suc (suc (suc zero)))))))))) h = refl
+upper_digit (suc (suc (suc (suc (suc (suc (suc (suc (suc (suc (suc zero))))))))))) h = refl
+upper_digit (suc (suc (suc (suc (suc (suc (suc (suc (suc (suc (suc (suc zero)))))))))))) h = refl
+upper_digit (suc (suc (suc (suc (suc (suc (suc (suc (suc (suc (suc (suc (suc zero))))))))))))) h = refl
+upper_digit (suc (suc (suc (suc (suc (suc (suc (suc (suc (suc (suc (suc (suc (suc zero)))))))))))))) h = refl
+upper_digit (suc (suc (suc (suc (suc (suc (suc (suc (suc (suc (suc (suc (suc (suc (suc zero))))))))))))))) h = refl
+upper_digit (suc (suc (suc (suc (suc (suc (suc (suc (suc (suc (suc (suc (suc (suc (suc (suc d)))))))))))))))) h = absurd (omega arith)
 
-pub digits_all : (w : ℕ) (o : List ℕ) → 16 ≤ length o → sets o 0 (hex 16 w) ≡ onto (hex 16 w) o
-digits_all w o h =
-    let n : length (hex 16 w) ≡ 16 = length-hex 16 w in
-    sets-eq (hex 16 w) o 0 (omega arith) ∙ simp n
+-- a byte is two digits
+bytes : (k : ℕ) → 256 ^ k ≡ 2 ^ (8 * k)
+bytes zero = refl
+bytes (suc k) =
+    let e : 8 * k + 8 ≡ 8 * suc k = omega arith in
+    pow-suc 256 k ∙ ap (λ (n : ℕ). n * 256) (bytes k) ∙ sym (pow-add 2 (8 * k) 8) ∙ ap (λ (n : ℕ). 2 ^ n) e
 
-pub digits_none : (k w : ℕ) (o p : List ℕ) → k ≡ 0 → 16 ≤ length o → sets o 0 (hex 16 w) ≡ sets p (16 - k) (hex k w) → p ≡ onto (hex 16 w) o
-unfolding hex
-digits_none k w o p e h i =
-    let a : 16 - k ≡ 16 = omega arith in
-    sym (ap (λ (n : ℕ). sets p (16 - k) (hex n w)) e) ∙ sym i ∙ digits_all w o h
+byte_is : (k n : ℕ) → byte_at k n ≡ n / 2 ^ (8 * k) % 256
+byte_is zero n = ap (λ (m : ℕ). m % 256) (sym (div-one n))
+byte_is (suc k) n = ap (λ (p : ℕ). n / p % 256) (bytes (suc k))
+
+encoded : (j k n : ℕ) → j ≡ 2 * k → map to_ascii_uppercase (encode_lower (bytes_high_first k n)) ≡ hex j n
+unfolding hex encode_with
+encoded zero zero n e = refl
+encoded (suc j) zero n e = absurd (omega arith)
+encoded zero (suc k) n e = absurd (omega arith)
+encoded (suc zero) (suc k) n e = absurd (omega arith)
+encoded (suc (suc j)) (suc k) n e =
+    let m : ℕ = n / 2 ^ (4 * j) in
+    let f : 8 * k ≡ 4 * j = omega arith in
+    let b : byte_at k n ≡ m % 256 = byte_is k n ∙ ap (λ (i : ℕ). n / 2 ^ i % 256) f in
+    let u : 4 * j + 4 ≡ 4 * suc j = omega arith in
+    let v : m / 16 ≡ n / 2 ^ (4 * suc j) = div-div-eq-div-mul n (2 ^ (4 * j)) 16 ∙ ap (λ (p : ℕ). n / p) (sym (pow-add 2 (4 * j) 4) ∙ ap (λ (i : ℕ). 2 ^ i) u) in
+    let w : byte_at k n / 16 ≡ m / 16 % 16 = omega arith in
+    let y : byte_at k n % 16 ≡ m % 16 = omega arith in
+    let r = ap (λ (d : ℕ). to_ascii_uppercase (slice_index lower_digits d)) w ∙ upper_digit (m / 16 % 16) (omega arith) ∙ ap (λ (i : ℕ). hex_digit (i % 16)) v in
+    let s = ap (λ (d : ℕ). to_ascii_uppercase (slice_index lower_digits d)) y ∙ upper_digit (m % 16) (omega arith) in
+    let g : j ≡ 2 * k = omega arith in
+    simp (r, s, encoded j k n g) refl
+
+pub encoded_number : (n : ℕ) (x : Float) (o q : List ℕ) → n ≡ to_pattern x → q ≡ map to_ascii_uppercase (encode_lower (bytes_high_first 8 n)) → q ++ drop 16 o ≡ onto (number_text x) o
+unfolding number_text
+encoded_number n x o q c g =
+    let d : q ≡ number_text x = g ∙ encoded 16 8 n refl ∙ ap (hex 16) c in
+    ap (λ (t : List ℕ). t ++ drop 16 o) d ∙ ap (λ (j : ℕ). number_text x ++ drop j o) (sym (length-number x))
+
+-- ---- and those of `io::decimal`, under 1,000
+pub decimal_digits : (k n : ℕ) → n < 1000 → 1 ≤ k → n < 10 ^ k → (1 < k → 10 ^ (k - 1) ≤ n) → last_digits 10 k n ≡ decimal_text n
+unfolding decimal_text hex_digit
+decimal_digits zero n h i j l = absurd (omega arith)
+decimal_digits (suc zero) n h i j l = grind (arith, nat_tests)
+decimal_digits (suc (suc zero)) n h i j l =
+    let m : 10 ≤ n = l (omega arith) in
+    grind (arith, nat_tests)
+decimal_digits (suc (suc (suc zero))) n h i j l =
+    let m : 100 ≤ n = l (omega arith) in
+    grind (arith, nat_tests)
+decimal_digits (suc (suc (suc (suc k)))) n h i j l =
+    let m : 3 ≤ suc (suc (suc (suc k))) - 1 = omega arith in
+    let o : 10 ^ 3 ≤ 10 ^ (suc (suc (suc (suc k))) - 1) = pow-le-pow_right (lit< tt) m in
+    let q : 10 ^ (suc (suc (suc (suc k))) - 1) ≤ n = l (omega arith) in
+    absurd (omega arith)

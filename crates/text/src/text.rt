@@ -3,9 +3,9 @@
 // with its place in two ways: `refused N at K`, K the number of a list's entry, counted from zero; and, by
 // a program that reads lines, `refused N at line L`, L counted from 1. Every line ends with a newline. Each
 // private writer puts one text at the start of what it is lent, and its contract says which.
-ghost use Rattle.std.specs.Prelude.{◌≡◌, ◌+◌, ◌*◌, ◌<◌, ◌≤◌, ◌/◌, ◌%◌, ◌^◌, length, OnOk, IfErr};
+ghost use Rattle.std.specs.Prelude.{◌≡◌, ◌+◌, ◌*◌, ◌<◌, ◌≤◌, ◌%◌, length, OnOk, IfErr};
 ghost use Rattle.consts.specs.Refusal.{number, no_room, code};
-ghost use Rattle.text.specs.Text.{hex_digit, number_text, word_text, lines_text, decimal_text, head_text, pieces_text, refused_where};
+ghost use Rattle.text.specs.Text.{number_text, word_text, lines_text, decimal_text, head_text, pieces_text, refused_where};
 ghost use Rattle.text.specs.Inside.{onto};
 ghost use Rattle.text.specs.Answers.{written_of, wrote, left, wrote_pieces, left_pieces, wrote_refusal, left_refusal, wrote_at, left_at};
 ghost use Rattle.text.specs.Answers.{wrote_refusal_at, left_refusal_at, wrote_refusal_at_line, left_refusal_at_line};
@@ -21,37 +21,16 @@ fn put_text(s: &[u8], out: &mut [u8])
     out[..s.len()].copy_from_slice(s);
 }
 
-// A hexadecimal digit, in upper case. One under 10 is a decimal digit too. (Written by hand, since no contract of
-// a `write!` says which bytes it gave.)
-#[tactic(auto, unfolding(crate::specs::Text::hex_digit))]
-fn digit(d: u64) -> u8
-    requires { d < 16 }
-    ensures { result ≡ hex_digit d }
-{
-    if d < 10 {
-        return b'0' + d as u8;
-    }
-    b'A' + (d - 10) as u8
-}
-
-// The digit of a word that k digits follow.
-fn digit_at(w: u64, k: usize) -> u8
-    requires { k < 16 }
-    ensures { result ≡ hex_digit (w / 2 ^ (4 * k) % 16) }
-{
-    digit((w >> (4 * k as u64)) % 16)
-}
-
-// Puts a number's bit pattern; k is how many of its digits follow the one that is put.
-#[tactic(auto, using(crate::proofs::Puts::digit_next, crate::proofs::Puts::digits_none), unfolding(crate::specs::Text::number_text))]
+// Puts a number's bit pattern, in upper-case digits.
+#[tactic(auto, using(crate::proofs::Puts::encoded_number))]
 fn put_number(x: f64, out: &mut [u8])
     requires { 16 ≤ length out.old }
     ensures { out.new ≡ onto (number_text x) out.old }
 {
-    let w = pattern(x);
-    for k in (0..16).rev() {
-        out[15 - k] = digit_at(w, k);
-    }
+    let mut digits = [0u8; 16];
+    let _ = hex::encode_to_slice(pattern(x).to_be_bytes(), &mut digits);
+    digits.make_ascii_uppercase();
+    out[..16].copy_from_slice(&digits);
 }
 
 // Puts a number and the mark after it.
@@ -102,16 +81,14 @@ fn width(n: u64) -> usize
 }
 
 // Puts a number under 1,000 in decimal.
-#[tactic(auto, unfolding(crate::specs::Text::decimal_text))]
+#[tactic(auto, using(crate::proofs::Puts::decimal_digits))]
 fn put_decimal(n: u64, out: &mut [u8])
     requires { (n < 1000) × (length (decimal_text n) ≤ length out.old) }
     ensures { out.new ≡ onto (decimal_text n) out.old }
 {
-    match n {
-        0..=9 => put_text(&[digit(n)], out),
-        10..=99 => put_text(&[digit(n / 10), digit(n % 10)], out),
-        _ => put_text(&[digit(n / 100), digit(n / 10 % 10), digit(n % 10)], out),
-    }
+    let mut digits = [0u8; 20];
+    let count = io::decimal(n, &mut digits);
+    put_text(&digits[..count], out);
 }
 
 // Puts a line that ends with a number: a name, a number under 1,000 and the newline.
@@ -178,9 +155,10 @@ pub fn write_refusal(n: u8, out: &mut [u8]) -> Result<usize, Refusal>
     ensures value { written_of result ≡ wrote_refusal n (length out.old) }
     ensures out_after { out.new ≡ left_refusal n out.old }
 {
-    let count = 9 + width(n as u64);
+    let n = u64::from(n);
+    let count = 9 + width(n);
     test_room(count, out)?;
-    put_head(b"refused ", n as u64, out);
+    put_head(b"refused ", n, out);
     Ok(count)
 }
 
