@@ -50,9 +50,8 @@
  * function keeps a pointer.
  *
  * THREADS. There is no state: any function may be called from any number of threads at once, as long as what one
- * call writes is not read or written by another. The largest needs of stack are those of sjurnabel_circle_approx_eq and
- * sjurnabel_circle_approx_eq_by on numbers that they refuse, about 33 kB, and that of sjurnabel_common_region, about
- * 26 kB.
+ * call writes is not read or written by another. The largest need of stack is that of sjurnabel_common_region, about
+ * 26 kB; every other function needs less than 1 kB.
  *
  * VERSIONS. A change that callers must know, of a layout or of what an answer means, raises the major number and with
  * it the shared object's name, libsjurnabel.so.MAJOR: a program starts only with a library of the major number that it

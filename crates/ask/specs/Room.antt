@@ -1,5 +1,5 @@
 -- How much room an answer takes. Definitions only.
-use Rattle.std.specs.Prelude.{ℕ, ◌+◌, ◌≤◌}
+use Rattle.std.specs.Prelude.{ℕ, ◌≡◌, ◌+◌, ◌≤◌}
 use Rattle.arrayvec.specs.ArrayVec.{ArrayVec, array_vec_len}
 
 -- No answer's line has more bytes.
@@ -21,3 +21,7 @@ HasRoom out n = array_vec_len out + n ≤ capacity
 -- At most n bytes were put.
 abbrev pub GrewBy : ArrayVec ℕ → ArrayVec ℕ → ℕ → Type 0
 GrewBy old new n = array_vec_len new ≤ array_vec_len old + n
+
+-- n bytes were put, no more and no fewer.
+abbrev pub LongerBy : ArrayVec ℕ → ArrayVec ℕ → ℕ → Type 0
+LongerBy old new n = array_vec_len new ≡ array_vec_len old + n

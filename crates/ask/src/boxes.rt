@@ -6,6 +6,7 @@ use crate::print::Answers;
 use crate::rect::rect;
 use crate::reply::Reply;
 use crate::{parse, print};
+use arrayvec::ArrayVec;
 use bbox::Answer;
 use bounds::Bounds;
 
@@ -23,7 +24,8 @@ pub(crate) fn read(s: &[u8], out: &mut Answers) -> Option<()>
     requires { HasRoom out.old room }
     ensures { GrewBy out.old out.new longest }
 {
-    let bytes = parse::text::<LONGEST>(s)?;
+    let mut bytes = ArrayVec::<u8, LONGEST>::new();
+    parse::text(s, &mut bytes)?;
     let a = Answer::from(bbox::read(bytes.as_slice()));
     print::bounds(a.refusal, a.value, out);
     Some(())

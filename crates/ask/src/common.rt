@@ -5,6 +5,7 @@ ghost use Rattle.ask.specs.Room.{longest, room, HasRoom, GrewBy};
 
 use crate::print::Answers;
 use crate::{parse, print};
+use arrayvec::ArrayVec;
 use region::common_region;
 
 // The most numbers of either list: one rectangle more than the operation takes, so that its refusal of
@@ -20,7 +21,8 @@ pub(crate) fn reply(s: &[u8], out: &mut Answers) -> Option<()>
     ensures { GrewBy out.old out.new longest }
 {
     let (n, rest) = parse::room(s)?;
-    let list = parse::numbers::<MOST>(rest.strip_prefix(b" |")?)?;
+    let mut list = ArrayVec::<f64, MOST>::new();
+    parse::numbers(rest.strip_prefix(b" |")?, &mut list)?;
     let mut x = [BEFORE; MOST];
     let x = x.get_mut(..n)?;
     let p = common_region(list.as_slice(), x);

@@ -76,24 +76,36 @@ impl<P: Print + Eprint> Dialogue<'_, P> {
     // Takes the bytes of one read. Writes the answers to the lines that end in them, so that who asks by
     // hand is answered at once.
     fn take_all(&mut self, bytes: &[u8]) {
-        for &b in bytes {
-            self.take(b);
+        for part in bytes.split_inclusive(|b| *b == b'\n') {
+            self.take(part);
         }
         self.write();
     }
 
-    // Takes one byte: the end of a line, or one more byte of its text.
-    fn take(&mut self, b: u8) {
-        if b == b'\n' {
-            self.make_room();
-            if put_answer(self.text.as_slice(), &mut self.answers).is_none() {
-                print::unknown(&mut self.answers);
+    // Takes a part of a line: its end, where a newline closes it, or else more bytes of its text.
+    fn take(&mut self, part: &[u8]) {
+        match part.strip_suffix(b"\n") {
+            Some(end) => {
+                self.hold(end);
+                self.answer_line();
             }
-            self.text.clear();
-        } else {
-            // Where the line is too long already, the byte is dropped.
-            let _ = self.text.try_push(b);
+            None => self.hold(part),
         }
+    }
+
+    // Adds bytes to the text. Where the line is too long already, they are dropped.
+    fn hold(&mut self, bytes: &[u8]) {
+        let n = bytes.len().min(self.text.remaining_capacity());
+        let _ = self.text.try_extend_from_slice(&bytes[..n]);
+    }
+
+    // Answers the line, and makes way for the next.
+    fn answer_line(&mut self) {
+        self.make_room();
+        if put_answer(self.text.as_slice(), &mut self.answers).is_none() {
+            print::unknown(&mut self.answers);
+        }
+        self.text.clear();
     }
 
     // Writes the answers that wait where another one may not fit behind them.
@@ -147,7 +159,11 @@ fn answer(name: &[u8], s: &[u8]) -> Option<Reply> {
         b"rect.vertex" => rect::vertex(s),
         b"running" => points::running(s),
         b"growth" => points::growth(s),
-        _ => of_numbers(name, parse::numbers::<MOST>(s)?.as_slice()),
+        _ => {
+            let mut numbers = ArrayVec::<f64, MOST>::new();
+            parse::numbers(s, &mut numbers)?;
+            of_numbers(name, numbers.as_slice())
+        }
     }
 }
 

@@ -2,12 +2,15 @@
 // pattern. So it is fixed where each number stands, and a space or a digit too many or too few puts a
 // wrong byte somewhere. Written otherwise are a vertex number, in two digits, a text, in two digits a
 // byte, and whole numbers, in decimal. What is not as it should be is None.
-ghost use Rattle.std.specs.Prelude.{◌<◌, IfSome, pos, ◌≤ℤ◌};
+ghost use Rattle.std.specs.Prelude.{◌<◌, ◌≤◌, IfSome, pos, ◌≤ℤ◌};
 
 use arrayvec::ArrayVec;
 
 // A number's bytes: a space and 16 digits.
 const WORD: usize = 17;
+
+// The least number of 18 digits. It is beyond every limit: more digits change it no more.
+const BEYOND: usize = 100000000000000000;
 
 // Splits a line where its name ends: before the first space, or with the line.
 pub(crate) fn name(s: &[u8]) -> (&[u8], &[u8]) {
@@ -15,32 +18,38 @@ pub(crate) fn name(s: &[u8]) -> (&[u8], &[u8]) {
     s.split_at(end)
 }
 
-// Reads numbers from the first byte to the last, as many as there is room for at most.
-pub(crate) fn numbers<const MOST: usize>(s: &[u8]) -> Option<ArrayVec<f64, MOST>> {
-    each(s, WORD, number)
+// Reads numbers from the first byte to the last, and adds them to x, as many as it has room for at most. A list is
+// lent to be filled, here and below: one that is handed back would be copied whole, however short it is.
+pub(crate) fn numbers<const MOST: usize>(s: &[u8], x: &mut ArrayVec<f64, MOST>) -> Option<()> {
+    each(s, WORD, number, x)
 }
 
-// Reads what so many bytes each are, from the first byte to the last, as many as there is room for at most.
-fn each<T: Default + Drop, const MOST: usize, F: Fn(&[u8]) -> Option<T>>(
+// Reads what so many bytes each are, from the first byte to the last, and adds it to x, as many as it has room for
+// at most.
+fn each<T: Drop, const MOST: usize, F: Fn(&[u8]) -> Option<T>>(
     s: &[u8],
     size: usize,
     read: F,
-) -> Option<ArrayVec<T, MOST>>
+    x: &mut ArrayVec<T, MOST>,
+) -> Option<()>
     requires size_nonzero { 0 < size }
     requires can_read { F.IsAlwaysCallable read }
 {
-    let mut x = ArrayVec::new();
-    for part in s.chunks(size) {
+    if s.len() % size != 0 {
+        return None;
+    }
+    for part in s.chunks_exact(size) {
         x.try_push(read(part)?).ok()?;
     }
-    Some(x)
+    Some(())
 }
 
 // Reads the four numbers at the start, and hands back what follows them.
 pub(crate) fn four(s: &[u8]) -> Option<([f64; 4], &[u8])> {
     let (first, rest) = s.split_at_checked(4 * WORD)?;
-    let x = numbers::<4>(first)?.into_inner().ok()?;
-    Some((x, rest))
+    let mut x = ArrayVec::<f64, 4>::new();
+    numbers(first, &mut x)?;
+    Some((x.into_inner().ok()?, rest))
 }
 
 // Reads a number.
@@ -69,12 +78,12 @@ fn octet(digits: &[u8]) -> Option<u8> {
     Some((digit(high)? << 4) | digit(low)?)
 }
 
-// Reads a text behind a space: two digits for each byte, or `-` where it is empty.
-pub(crate) fn text<const MOST: usize>(s: &[u8]) -> Option<ArrayVec<u8, MOST>> {
+// Reads a text behind a space, and adds its bytes to x: two digits for each, or `-` where it is empty.
+pub(crate) fn text<const MOST: usize>(s: &[u8], x: &mut ArrayVec<u8, MOST>) -> Option<()> {
     match s.strip_prefix(b" ")? {
         [] => None,
-        b"-" => Some(ArrayVec::new()),
-        digits => each(digits, 2, octet),
+        b"-" => Some(()),
+        digits => each(digits, 2, octet, x),
     }
 }
 
@@ -85,7 +94,7 @@ pub(crate) fn room(s: &[u8]) -> Option<(usize, &[u8])> {
 }
 
 // Reads the whole number behind a space, of either sign, and hands back what follows it. Minus zero is
-// zero. One that is no i64 is beyond every limit, as the greatest is.
+// zero.
 pub(crate) fn whole(s: &[u8]) -> Option<(i64, &[u8])> {
     let (word, rest) = name(s.strip_prefix(b" ")?);
     let value = match word.strip_prefix(b"-") {
@@ -99,21 +108,30 @@ pub(crate) fn whole(s: &[u8]) -> Option<(i64, &[u8])> {
 fn size(digits: &[u8]) -> Option<i64>
     ensures { IfSome result (λ n. pos 0 ≤ℤ n) }
 {
-    Some(decimal(digits)?.min(i64::MAX as usize) as i64)
+    Some(decimal(digits)? as i64)
 }
 
-// Reads a number in decimal, of any length, without a needless leading zero. One that is too large for
-// the machine is beyond every limit, as the greatest is.
-fn decimal(digits: &[u8]) -> Option<usize> {
+// Reads a number in decimal, of any length, without a needless leading zero. One of more digits than 18 is
+// beyond every limit, as the number of its first 18 is.
+fn decimal(digits: &[u8]) -> Option<usize>
+    ensures { IfSome result (λ n. n < 1000000000000000000) }
+{
     if let [] | [b'0', _, ..] = digits {
         return None;
     }
-    let mut n = 0usize;
+    let mut n = 0;
     for &b in digits {
-        let d = char::from(b).to_digit(10)?;
-        n = n.saturating_mul(10).saturating_add(d as usize);
+        n = longer(n, char::from(b).to_digit(10)?);
     }
     Some(n)
+}
+
+// A number with one digit more, unless it has 18.
+fn longer(n: usize, d: u32) -> usize
+    requires { (n < 1000000000000000000) × (d ≤ 9) }
+    ensures { result < 1000000000000000000 }
+{
+    if n < BEYOND { n * 10 + d as usize } else { n }
 }
 
 // The value of a hexadecimal digit of either case.

@@ -13,13 +13,17 @@ const MOST: usize = 8194;
 
 // The answer to `growth`; s is what follows the name.
 pub(crate) fn growth(s: &[u8]) -> Option<Reply> {
-    let (r, points) = operands(s)?;
+    let (r, rest) = operands(s)?;
+    let mut points = ArrayVec::<f64, MOST>::new();
+    parse::numbers(rest, &mut points)?;
     Some(rect(Answer::grown(r, grow(r, points.as_slice()))))
 }
 
 // The answer to `running`.
 pub(crate) fn running(s: &[u8]) -> Option<Reply> {
-    let (r, points) = operands(s)?;
+    let (r, rest) = operands(s)?;
+    let mut points = ArrayVec::<f64, MOST>::new();
+    parse::numbers(rest, &mut points)?;
     if points.len() % 2 != 0 {
         return None;
     }
@@ -27,11 +31,10 @@ pub(crate) fn running(s: &[u8]) -> Option<Reply> {
     Some(ran(RunningAnswer::of(r, run)))
 }
 
-// Reads the rectangle and the list.
-fn operands(s: &[u8]) -> Option<(Rect, ArrayVec<f64, MOST>)> {
+// Reads the rectangle and the bar, and hands back what follows them.
+fn operands(s: &[u8]) -> Option<(Rect, &[u8])> {
     let (r, rest) = parse::four(s)?;
-    let list = parse::numbers(rest.strip_prefix(b" |")?)?;
-    Some((bounds(r), list))
+    Some((bounds(r), rest.strip_prefix(b" |")?))
 }
 
 // How many calls were accepted, then the box.

@@ -4,8 +4,8 @@
 //
 // Without heap, a `write!` does not say that there was room for what it wrote: so there is no Display here,
 // and each function has the room that it takes in its contract.
-ghost use Rattle.std.specs.Prelude.{◌+◌, ◌*◌, ◌≤◌, length};
-ghost use Rattle.ask.specs.Room.{longest, room, HasRoom, GrewBy};
+ghost use Rattle.std.specs.Prelude.{◌≡◌, ◌+◌, ◌*◌, ◌≤◌, ◌++◌, length};
+ghost use Rattle.ask.specs.Room.{longest, room, HasRoom, GrewBy, LongerBy};
 
 use crate::reply::Reply;
 use arrayvec::ArrayVec;
@@ -179,7 +179,7 @@ fn decimal(n: u64, out: &mut Answers)
 // Puts each number after a space.
 fn numbers(x: &[f64], out: &mut Answers)
     requires { HasRoom out.old (17 * length x.now) }
-    ensures { GrewBy out.old out.new (17 * length x.now) }
+    ensures { LongerBy out.old out.new (17 * length x.now) }
 {
     for &v in x {
         number(v, out);
@@ -189,10 +189,10 @@ fn numbers(x: &[f64], out: &mut Answers)
 // Puts a space and a number.
 fn number(x: f64, out: &mut Answers)
     requires { HasRoom out.old 17 }
-    ensures { GrewBy out.old out.new 17 }
+    ensures { LongerBy out.old out.new 17 }
 {
     let mut digits = [0u8; 16];
-    io::hex(bits::pattern(x), 16, &mut digits);
+    let _ = hex::encode_to_slice(bits::pattern(x).to_be_bytes(), &mut digits);
     digits.make_ascii_uppercase();
     put(b" ", out);
     put(&digits, out);
@@ -201,7 +201,8 @@ fn number(x: f64, out: &mut Answers)
 // Puts a text.
 fn put(s: &[u8], out: &mut Answers)
     requires { HasRoom out.old (length s.now) }
-    ensures { GrewBy out.old out.new (length s.now) }
+    ensures items { out.new.items ≡ out.old.items ++ s.now }
+    ensures len { LongerBy out.old out.new (length s.now) }
 {
     out.try_extend_from_slice(s).unwrap();
 }

@@ -30,6 +30,10 @@ module _ (ws : List ℤ) (h : Listed ws) where
   behind : drop 4 ws ≡ wholes h.boxes
   behind = ap (drop 4) h.holds.are ∙ unfold wholes in refl
 
+  -- room for it
+  pub listed_fits : length ws ≤ 2052
+  listed_fits = omega (arith, ap length h.holds.are, length-wholes (GLOBE ∷ h.boxes), h.holds.few)
+
   -- in radians
   module _ (x : List Float) (e : x ≡ in_radians ws) where
     pub globe-first : 4 ≤ length x

@@ -1,6 +1,6 @@
 -- Whole numbers in radians: how many there are, one more of them, and the first one whose radians are a given number, which stands at the place where that
--- number is found. By induction on the list. Assumes nothing.
-use mathlib.Core.Path.{◌≡◌, refl, ap, ◌∙◌}
+-- number is found; and a list that is searched in two parts. By induction on the list. Assumes nothing.
+use mathlib.Core.Path.{◌≡◌, refl, sym, ap, ◌∙◌}
 use mathlib.Core.Bool.{Bool, true, false, not, cond}
 use mathlib.Core.List.{List, [], ◌∷◌, ◌++◌}
 use Prim.Native.Nat.{ℕ, suc, ◌+◌, ◌<◌}
@@ -60,3 +60,56 @@ looked (w ∷ ws) v = go (eq (radians w) v) (looked ws v)
     go true h = ap (λ (t : Bool). number_at (w ∷ ws) (cond t (Some 0) None)) (lt-ltb 0 (suc m) (omega arith))
     go false h = ap (λ (k : ℕ). number_at (w ∷ ws) (cond (nat_lt k (suc m)) (Some k) None)) one-more
         ∙ ap (λ (t : Bool). number_at (w ∷ ws) (cond t (Some (suc n)) None)) before ∙ next (nat_lt n m) ∙ h
+
+-- ---- looking in two parts, the one behind the other
+abbrev next : Option ℕ → Option ℕ
+next None = None
+next (Some i) = Some (suc i)
+
+one-more : (p : Float → Bool) (x : Float) (xs : List Float) → position p (x ∷ xs) ≡ cond (p x) (Some 0) (next (position p xs))
+one-more p x xs = go (p x)
+  where
+    n : ℕ
+    n = position_or_len p xs
+
+    m : ℕ
+    m = length xs
+
+    step : 1 + n ≡ suc n
+    step = omega arith
+
+    before : nat_lt (suc n) (suc m) ≡ nat_lt n m
+    before = leb-suc-suc (suc n) m
+
+    both : (t : Bool) → cond t (Some (suc n)) None ≡ next (cond t (Some n) None)
+    both true = refl
+    both false = refl
+
+    go : (t : Bool) → cond (nat_lt (cond (not t) (1 + n) 0) (suc m)) (Some (cond (not t) (1 + n) 0)) None ≡ cond t (Some 0) (next (cond (nat_lt n m) (Some n) None))
+    go true = ap (λ (t : Bool). cond t (Some 0) None) (lt-ltb 0 (suc m) (omega arith))
+    go false = ap (λ (k : ℕ). cond (nat_lt k (suc m)) (Some k) None) step ∙ ap (λ (t : Bool). cond t (Some (suc n)) None) before ∙ both (nat_lt n m)
+
+-- the place in n numbers, or else that in those behind them
+abbrev pub or_behind : ℕ → Option ℕ → Option ℕ → Option ℕ
+or_behind n (Some i) r = Some i
+or_behind n None None = None
+or_behind n None (Some i) = Some (n + i)
+
+pub parted : (p : Float → Bool) (xs ys : List Float) → position p (xs ++ ys) ≡ or_behind (length xs) (position p xs) (position p ys)
+parted p [] ys = go (position p ys)
+  where
+    go : (r : Option ℕ) → r ≡ or_behind 0 None r
+    go None = refl
+    go (Some i) = ap Some (omega arith)
+parted p (x ∷ xs) ys =
+    one-more p x (xs ++ ys) ∙ go (p x) (parted p xs ys) ∙ ap (λ (r : Option ℕ). or_behind (suc (length xs)) r (position p ys)) (sym (one-more p x xs))
+  where
+    both : (r q : Option ℕ) → next (or_behind (length xs) r q) ≡ or_behind (suc (length xs)) (next r) q
+    both (Some i) q = refl
+    both None None = refl
+    both None (Some i) = ap Some (omega arith)
+
+    go : (t : Bool) → position p (xs ++ ys) ≡ or_behind (length xs) (position p xs) (position p ys)
+        → cond t (Some 0) (next (position p (xs ++ ys))) ≡ or_behind (suc (length xs)) (cond t (Some 0) (next (position p xs))) (position p ys)
+    go true h = refl
+    go false h = ap next h ∙ both (position p xs) (position p ys)

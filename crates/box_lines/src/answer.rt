@@ -7,7 +7,7 @@ ghost use Rattle.box_lines.specs.Answers.{box_line, boxes_of, box_lines, answer_
 ghost use Rattle.box_lines.specs.Inside.{Listed, IsFound, listed_text};
 
 use crate::gather::{Unread, gather};
-use crate::wholes::Edges;
+use crate::wholes::{Edges, GLOBE, Radians, Wholes, add, put_radians};
 use arrayvec::ArrayVec;
 use bbox_text::write;
 use bounds::Bounds;
@@ -35,7 +35,7 @@ fn put_line(t: &mut Text, b: Bounds)
 fn put_lines(t: &mut Text, edges: &Edges, pieces: &[f64])
     requires empty { t.old.items ≡ [] }
     requires pieces { (length pieces.now % 4 ≡ 0) × (length pieces.now ≤ 2048) }
-    ensures { t.new.items ≡ box_lines (boxes_of edges.now.wholes.items (rects_of pieces.now)) }
+    ensures { t.new.items ≡ box_lines (boxes_of edges.now.wholes.now (rects_of pieces.now)) }
 {
     for piece in pieces.chunks_exact(4) {
         put_line(t, edges.box_of(piece));
@@ -45,24 +45,31 @@ fn put_lines(t: &mut Text, edges: &Edges, pieces: &[f64])
 // Finds the common region of boxes that were read, and puts its pieces at the start of a list. How many they are:
 // no more than there are boxes, so there is room for them, and nothing is refused.
 fn find(edges: &Edges, pieces: &mut [f64]) -> usize
-    requires list { Listed edges.now.wholes.items }
+    requires list { Listed edges.now.wholes.now }
     requires room { length pieces.old ≡ 2048 }
-    ensures { IsFound edges.now.wholes.items result pieces.new }
+    ensures { IsFound edges.now.wholes.now result pieces.new }
 {
     common_region(&edges.radians[4..], pieces).unwrap_or(0)
 }
 
-// The text of the common region of boxes that were read, to the start of out.
-#[tactic(auto, using(crate::proofs::Listing::listed_is), unfolding(crate::specs::Inside::listed_text))]
-fn listed(edges: &Edges, out: &mut [u8]) -> Result<usize, Refusal>
-    requires { Listed edges.now.wholes.items }
-    ensures value { written_of result ≡ wrote (listed_text edges.now.wholes.items) (length out.old) }
-    ensures out_after { out.new ≡ left (listed_text edges.now.wholes.items) out.old }
+// The text of the common region of boxes that were read, to the start of out. The list has the whole numbers of the
+// globe and of the boxes.
+#[tactic(auto, using(crate::proofs::Listing::listed_is, crate::proofs::Listing::listed_fits), unfolding(crate::specs::Inside::listed_text))]
+fn listed(list: &[i64], out: &mut [u8]) -> Result<usize, Refusal>
+    requires { Listed list.now }
+    ensures value { written_of result ≡ wrote (listed_text list.now) (length out.old) }
+    ensures out_after { out.new ≡ left (listed_text list.now) out.old }
 {
+    let mut radians = Radians::new();
+    put_radians(&mut radians, list);
+    let edges = Edges {
+        wholes: list,
+        radians: radians.as_slice(),
+    };
     let mut pieces = [0.0; 2048];
-    let n = find(edges, &mut pieces);
+    let n = find(&edges, &mut pieces);
     let mut t = ArrayVec::new();
-    put_lines(&mut t, edges, &pieces[..4 * n]);
+    put_lines(&mut t, &edges, &pieces[..4 * n]);
     write_text(t.as_slice(), out)
 }
 
@@ -79,9 +86,10 @@ pub fn boxes_text(s: &[u8], out: &mut [u8]) -> Result<usize, Refusal>
     ensures value { written_of result ≡ wrote (answer_text s.now) (length out.old) }
     ensures out_after { out.new ≡ left (answer_text s.now) out.old }
 {
-    let mut edges = Edges::new();
-    match gather(s, &mut edges) {
-        Ok(()) => listed(&edges, out),
+    let mut list = Wholes::new();
+    add(&mut list, GLOBE);
+    match gather(s, &mut list) {
+        Ok(()) => listed(list.as_slice(), out),
         Err(Unread::NoLine) => write_refusal(Refusal::BadText.into(), out),
         Err(Unread::Line { refusal, line }) => write_refusal_at_line(refusal.into(), line, out),
         Err(Unread::TooMany) => write_refusal(Refusal::BadList.into(), out),

@@ -1,10 +1,10 @@
-// The lines of a text from the first to the last, the edges of their boxes as one list, after those of the
+// The lines of a text from the first to the last, the whole numbers of their boxes as one list, after those of the
 // whole globe. The first fault decides.
 ghost use Rattle.std.specs.Prelude.{◌≡◌, [], ◌∷◌, OnOk, IfErr};
 ghost use Rattle.box_lines.specs.Answers.{GLOBE, wholes};
 ghost use Rattle.box_lines.specs.Inside.{Gathered, IsUnread};
 
-use crate::wholes::Edges;
+use crate::wholes::{Wholes, add};
 use bbox::read;
 use consts::Refusal;
 
@@ -17,23 +17,22 @@ pub(crate) enum Unread {
     TooMany,
 }
 
-// Reads the lines of s, and adds the edges of their boxes to those of the globe. The last line may lack its newline.
-// (The edges are lent: handed back in the result they would be copied.)
+// Reads the lines of s, and adds the whole numbers of their boxes to those of the globe. The last line may lack its
+// newline. What is left after the 512th is one line too many, however long: it isn't read.
+// (The list is lent: handed back in the result it would be copied.)
 #[tactic(auto, using(crate::proofs::Held::starts, crate::proofs::Held::no_line))]
-pub(crate) fn gather(s: &[u8], edges: &mut Edges) -> Result<(), Unread>
-    requires { edges.old.wholes.items ≡ wholes (GLOBE ∷ []) }
-    ensures boxes { OnOk result (Gathered s.now edges.new.wholes.items) }
+pub(crate) fn gather(s: &[u8], list: &mut Wholes) -> Result<(), Unread>
+    requires { list.old.items ≡ wholes (GLOBE ∷ []) }
+    ensures boxes { OnOk result (Gathered s.now list.new.items) }
     ensures fault { IfErr result (λ u. IsUnread s.now u) }
 {
     if s.is_empty() {
         return Err(Unread::NoLine);
     }
-    for (k, line) in s.split_inclusive(|b| *b == b'\n').enumerate() {
-        if k == 512 {
-            return Err(Unread::TooMany);
-        }
+    let mut left = s.len();
+    for (k, line) in s.split_inclusive(|b| *b == b'\n').take(512).enumerate() {
         match read(line.strip_suffix(b"\n").unwrap_or(line)) {
-            Ok(b) => edges.add(b),
+            Ok(b) => add(list, b),
             Err(refusal) => {
                 return Err(Unread::Line {
                     refusal,
@@ -41,6 +40,10 @@ pub(crate) fn gather(s: &[u8], edges: &mut Edges) -> Result<(), Unread>
                 });
             }
         }
+        left -= line.len();
+    }
+    if left > 0 {
+        return Err(Unread::TooMany);
     }
     Ok(())
 }

@@ -189,6 +189,9 @@ pub struct CDistance {
 }
 
 // Infinity is one over zero, since no constant can be it.
+// Laws: none of its own.
+// Ruled out: of the distance 2: 2 and unbounded; of Unbounded: unbounded, and 0 (it is infinity); of a refusal with 1:
+// 1 under 1; of the same: 0 under 0.
 impl From<Result<Distance, Refusal>> for CDistance {
     ghost from_gives = { λ r d. d ≡ distance_back (distance_answer_of r) };
 

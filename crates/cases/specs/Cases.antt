@@ -72,8 +72,9 @@ abbrev pub IsCut : List ℕ → Places → List ℕ → List ℕ → List ℕ �
 IsCut s p label bytes rest =
     (label ≡ take (p.line - p.label) (drop p.label s)) × (bytes ≡ take (p.end - p.bytes) (drop p.bytes s)) × (rest ≡ drop p.end s)
 
--- of s the first case is given, and t is left; or there is none, and s is left
+-- of s the first case is given, which is there, so that its bytes start behind its line, and t is left; or there is
+-- none, and s is left
 abbrev pub StepsCase : List ℕ → Option Case → List ℕ → Type 0
 StepsCase s r t =
     MatchOption r ((first_case s ≡ no_case (length s)) × (t ≡ s))
-    (λ c. (c.sort ≡ (first_case s).sort) × IsCut s (first_case s) c.label.now c.bytes.now t)
+    (λ c. ((first_case s).bytes ≡ (first_case s).line + 1) × (c.sort ≡ (first_case s).sort) × IsCut s (first_case s) c.label.now c.bytes.now t)

@@ -25,6 +25,9 @@ pub struct Case<'a> {
 #[derive(Clone, Copy, Debug)]
 pub struct Cases<'a>(pub &'a [u8]);
 
+// Laws: Laws.read_back, Laws.parts-back, Laws.cut_short.
+// Ruled out: of `s 01 000001 a`, a newline, `x`, `t 01 000000 b` and a newline: the case of sort t; of the same: the
+// first, and `x` left; of `s 01 000002 a`, a newline and one byte: a case of sort s (it is cut).
 impl<'a> Iterator for Cases<'a> {
     type Item = Case<'a>;
 

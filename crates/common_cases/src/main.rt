@@ -12,8 +12,11 @@ use consts::Refusal;
 // Room for all cases: they have 170,287 bytes.
 const LIMIT: usize = 196608;
 
-// The longest answer: `pieces 512` and 512 lines of 68 bytes.
+// The longest answer to a stream: `pieces 512` and 512 lines of 68 bytes.
 const ROOM: usize = 34827;
+
+// What is written of one record: `pieces 1` and a line of 68 bytes.
+const RECORD_ROOM: usize = 77;
 
 fn main(rt: HostRuntime) {
     let mut bytes = [0u8; LIMIT];
@@ -24,18 +27,29 @@ fn main(rt: HostRuntime) {
     }
 }
 
-// Writes a case's label and its answer: that of a stream, or of a record by itself.
+// Writes a case's label and its answer: that of a stream, or of a record by itself. Of another sort nothing
+// is written. The room is made where the sort is known, as long as that answer: it is cleared for each case.
 #[tactic(auto, unfolding(text::specs::Answers::wrote))]
 fn show(rt: &impl Print, case: Case) {
-    let mut out = [0u8; ROOM];
-    let written = match case.sort {
-        b's' => stream::common_text(case.bytes, &mut out),
-        b'r' => record_text(case.bytes, &mut out),
-        _ => return,
-    };
-    let n = written.unwrap_or(0);
-    // (As in `boxes_cases`: a library's function has a contract, and none can speak of what is written.)
-    for part in [b"case ".as_slice(), case.label, b"\n", &out[..n]] {
+    match case.sort {
+        b's' => {
+            let mut out = [0u8; ROOM];
+            let written = stream::common_text(case.bytes, &mut out);
+            write_case(rt, case.label, &out[..written.unwrap_or(0)]);
+        }
+        b'r' => {
+            let mut out = [0u8; RECORD_ROOM];
+            let written = record_text(case.bytes, &mut out);
+            write_case(rt, case.label, &out[..written.unwrap_or(0)]);
+        }
+        _ => {}
+    }
+}
+
+// Writes a label and an answer. (As in `boxes_cases`: a library's function has a contract, and none can speak of
+// what is written.)
+fn write_case(rt: &impl Print, label: &[u8], answer: &[u8]) {
+    for part in [b"case ".as_slice(), label, b"\n", answer] {
         // What cannot be written is missing in the output: the stored one shows it.
         let _ = rt.write_all(part);
     }

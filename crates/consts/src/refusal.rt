@@ -21,6 +21,8 @@ pub enum Refusal {
     HalfEmpty = 23,
 }
 
+// Laws: Codes.refuses, Codes.same_code.
+// Ruled out: of BadCircle: 2 (it is 22); of BadMargin: 40 (it is 4); of OutOfReach: 0, which is no refusal's.
 impl From<Refusal> for u8 {
     ghost from_gives = { λ r n. n ≡ code r };
 

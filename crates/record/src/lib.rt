@@ -4,4 +4,4 @@
 
 mod record;
 
-pub use record::{is_record, read_record};
+pub use record::{is_record, number_of, read_record};

@@ -1,6 +1,6 @@
 // One record of the stream: the mark 52 31, then lat.lo, lat.hi, lng.lo, lng.hi as little-endian doubles.
 ghost use Rattle.std.specs.Prelude.{◌≡◌, ◌+◌, ◌≤◌, length};
-ghost use Rattle.record.specs.Records.{is_mark, double_at, rect_of, whole_record, IsRecord};
+ghost use Rattle.record.specs.Records.{is_mark, double_at, rect_of, whole_record, record_number, IsRecord};
 
 use consts::Refusal;
 use r1::interval::Interval as Line;
@@ -10,6 +10,19 @@ use s2::rect::Rect;
 
 // How many bytes a record has.
 const SIZE: usize = 34;
+
+// Document 01's number for a record.
+// Laws: Records.whole-number, Records.short-refused, Records.mark-refused.
+// Ruled out: of a rectangle: 7; of a refusal by 22: 0.
+#[tactic(auto, unfolding(crate::specs::Records::record_number))]
+pub fn number_of(x: Result<Rect, Refusal>) -> u8
+    ensures { result ≡ record_number x }
+{
+    match x {
+        Ok(_) => 0,
+        Err(why) => why.into(),
+    }
+}
 
 // Whether two bytes are the mark.
 #[tactic(auto, unfolding(crate::specs::Records::is_mark))]

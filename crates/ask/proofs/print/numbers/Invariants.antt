@@ -1,7 +1,7 @@
--- `ask::print::numbers`: each number takes at most 17 bytes. Assumes nothing.
+-- `ask::print::numbers`: each number takes 17 bytes. Assumes nothing.
 use Rattle.std.proofs.Common.{◌*◌}
-use Rattle.ask.specs.Room.{GrewBy}
+use Rattle.ask.specs.Room.{LongerBy}
 use Rattle.ask.proofs.print.numbers.Given as goal
 
 abbrev pub invariant-loop-v : goal.invariant-loop-v
-invariant-loop-v l = GrewBy l.fn.out l.out (17 * l.v-index)
+invariant-loop-v l = LongerBy l.fn.out l.out (17 * l.v-index)

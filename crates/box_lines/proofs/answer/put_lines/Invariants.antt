@@ -6,4 +6,4 @@ use Rattle.box_lines.proofs.answer.put_lines.Given as goal
 
 abbrev pub invariant-loop-piece : goal.invariant-loop-piece
 invariant-loop-piece l =
-    Made l.edges.wholes.items l.pieces l.t.items (chunks_exact_rest l.piece-iterator) × (chunks_exact_size l.piece-iterator ≡ 4)
+    Made l.edges.wholes.now l.pieces l.t.items (chunks_exact_rest l.piece-iterator) × (chunks_exact_size l.piece-iterator ≡ 4)
