@@ -1,8 +1,9 @@
 -- Devices of the proofs: points that a box holds already, in the order in which they are tested, how many points are refused, and what the functions of src/
 -- promise each other of them. A call with a point that is held changes nothing (proofs/Held.antt). No public contract cites these: nothing here needs to be
 -- believed. Definitions only.
-use Rattle.std.specs.Prelude.{◌≡◌, Bool, true, ◌&&◌, cond, List, [], ◌∷◌, ℕ, suc, ◌+◌, ◌<◌, ◌≤◌, ◌%◌, Option, None, Some, length, drop, Float}
+use Rattle.std.specs.Prelude.{◌≡◌, Bool, true, ◌&&◌, cond, List, [], ◌∷◌, ℕ, suc, ◌+◌, ◌<◌, ◌≤◌, ◌*◌, ◌/◌, ◌%◌, Option, None, Some, length, drop, Float}
 use Rattle.std.specs.Float.Ieee.{le}
+use Rattle.std.specs.declared.ops.Range.{Range}
 use Rattle.consts.specs.Constants.{PI, NEG-PI}
 use Rattle.consts.specs.Refusal.{given}
 use Rattle.s1.specs.declared.interval.Interval.{Interval as Circle}
@@ -53,10 +54,27 @@ pub record HeldUntil (l : List Float) (first : ℕ) (q : Rect) (r : ℕ) : Type 
   pub up_to : r ≤ length l
   pub whole : r % 2 ≡ 0
 
--- r is a number to go on from, where a point is left; where there is none, the calls that are left change nothing
-abbrev pub Beyond : List Float → ℕ → Rect → Option ℕ → Type 0
-Beyond l first q None = HeldUntil l first q (length l)
-Beyond l first q (Some r) = HeldUntil l first q r × (r < length l)
+-- the calls with the whole points whose numbers are left, up to the last, are to be made on the box q
+pub record Left (l : List Float) (left : Range ℕ) (q : Rect) : Type 0 where
+  pub growing : Growing l (2 * left.start) q
+  pub last : left.end ≡ length l / 2
+
+-- the points that were left and no longer are change nothing
+pub record Passed (l : List Float) (was : Range ℕ) (q : Rect) (left : Range ℕ) : Type 0 where
+  pub held : HeldUntil l (2 * was.start) q (2 * left.start)
+  pub end : left.end ≡ was.end
+
+-- k is the number of a point: those before it that were left change nothing, and those after it are left now
+pub record Found (l : List Float) (was : Range ℕ) (q : Rect) (left : Range ℕ) (k : ℕ) : Type 0 where
+  pub held : HeldUntil l (2 * was.start) q (2 * k)
+  pub room : 2 * k + 1 < length l
+  pub start : left.start ≡ k + 1
+  pub end : left.end ≡ was.end
+
+-- the next of the points left that the box does not hold; where there is none, the calls that are left change nothing
+abbrev pub Beyond : List Float → Range ℕ → Rect → Range ℕ → Option ℕ → Type 0
+Beyond l was q left None = HeldUntil l (2 * was.start) q (length l)
+Beyond l was q left (Some k) = Found l was q left k
 
 -- the calls up to the number i have been made: the box is q, and so many were refused; with those that are left they come to the whole
 pub record SoFar (l : List Float) (start q : Rect) (refused i : ℕ) : Type 0 where
