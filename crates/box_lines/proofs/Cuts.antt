@@ -119,3 +119,13 @@ pub trimmed : {s x t : List ℕ} → Part s x t → (r : Option (Bor (List ℕ))
     → (unwrap_or r d).now ≡ line_of s
 trimmed p None d e m = e ∙ p.bare m
 trimmed p (Some y) d e m = m.1 ∙ p.line m.0
+
+-- a part as it is read is the line, and what follows it is what is left to be read
+pub cut-line : (s x t : List ℕ) → s ≡ x ++ t → (i : ℕ) → length x ≡ min (i + 1) (length s) → IsFirstMatchOrLen newline s i → 0 < length s
+    → (r : Option (Bor (List ℕ))) (d : Bor (List ℕ)) → d.now ≡ x
+    → MatchOption r (ends_so x ≡ false) (λ y. (ends_so x ≡ true) × (y.now ≡ take (length x - 1) x) × (length y.now + 1 ≡ length x))
+    → (y : Bor (List ℕ)) → y ≡ unwrap_or r d
+    → (t ≡ after_line s) × (y.now ≡ line_of s)
+cut-line s x t e i n h q r d a m y u =
+    let p : Part s x t = part s x t e i h q n in
+    (p.rest, ap (λ (b : Bor (List ℕ)). b.now) u ∙ trimmed p r d a m)

@@ -34,34 +34,7 @@ abbrev pub number_at : List ℤ → Option ℕ → ℤ
 number_at ws None = pos 0
 number_at ws (Some i) = get_or ws i (pos 0)
 
-pub looked : (ws : List ℤ) (v : Float) → number_at ws (position (λ (x : Float). eq x v) (in_radians ws)) ≡ whole_of ws v
-unfolding in_radians whole_of
-looked [] v = refl
-looked (w ∷ ws) v = go (eq (radians w) v) (looked ws v)
-  where
-    n : ℕ
-    n = position_or_len (λ (x : Float). eq x v) (in_radians ws)
-
-    m : ℕ
-    m = length (in_radians ws)
-
-    next : (t : Bool) → number_at (w ∷ ws) (cond t (Some (suc n)) None) ≡ number_at ws (cond t (Some n) None)
-    next true = refl
-    next false = refl
-
-    one-more : 1 + n ≡ suc n
-    one-more = omega arith
-
-    before : nat_lt (suc n) (suc m) ≡ nat_lt n m
-    before = leb-suc-suc (suc n) m
-
-    go : (t : Bool) → number_at ws (cond (nat_lt n m) (Some n) None) ≡ whole_of ws v
-        → number_at (w ∷ ws) (cond (nat_lt (cond (not t) (1 + n) 0) (suc m)) (Some (cond (not t) (1 + n) 0)) None) ≡ cond t w (whole_of ws v)
-    go true h = ap (λ (t : Bool). number_at (w ∷ ws) (cond t (Some 0) None)) (lt-ltb 0 (suc m) (omega arith))
-    go false h = ap (λ (k : ℕ). number_at (w ∷ ws) (cond (nat_lt k (suc m)) (Some k) None)) one-more
-        ∙ ap (λ (t : Bool). number_at (w ∷ ws) (cond t (Some (suc n)) None)) before ∙ next (nat_lt n m) ∙ h
-
--- ---- looking in two parts, the one behind the other
+-- ---- where a number stands, by its own case first
 abbrev next : Option ℕ → Option ℕ
 next None = None
 next (Some i) = Some (suc i)
@@ -89,6 +62,23 @@ one-more p x xs = go (p x)
     go true = ap (λ (t : Bool). cond t (Some 0) None) (lt-ltb 0 (suc m) (omega arith))
     go false = ap (λ (k : ℕ). cond (nat_lt k (suc m)) (Some k) None) step ∙ ap (λ (t : Bool). cond t (Some (suc n)) None) before ∙ both (nat_lt n m)
 
+pub looked : (ws : List ℤ) (v : Float) → number_at ws (position (λ (x : Float). eq x v) (in_radians ws)) ≡ whole_of ws v
+unfolding in_radians whole_of
+looked [] v = refl
+looked (w ∷ ws) v = ap (number_at (w ∷ ws)) (one-more (λ (x : Float). eq x v) (radians w) (in_radians ws)) ∙ go (eq (radians w) v) (looked ws v)
+  where
+    found : Option ℕ
+    found = position (λ (x : Float). eq x v) (in_radians ws)
+
+    behind : (r : Option ℕ) → number_at (w ∷ ws) (next r) ≡ number_at ws r
+    behind None = refl
+    behind (Some i) = refl
+
+    go : (t : Bool) → number_at ws found ≡ whole_of ws v → number_at (w ∷ ws) (cond t (Some 0) (next found)) ≡ cond t w (whole_of ws v)
+    go true h = refl
+    go false h = behind found ∙ h
+
+-- ---- looking in two parts, the one behind the other
 -- the place in n numbers, or else that in those behind them
 abbrev pub or_behind : ℕ → Option ℕ → Option ℕ → Option ℕ
 or_behind n (Some i) r = Some i

@@ -5,7 +5,6 @@ use mathlib.Core.Path.{refl, sym, ap, ◌∙◌}
 use mathlib.Core.List.{List}
 use Prim.Native.Nat.{ℕ, zero, suc, ◌+◌, ◌<◌}
 use native.Mathlib.Omega.{arith}
-use denote.Bor.{Bor}
 use lib.ListN.{length, length-append}
 use Rattle.std.specs.Slice.Iter.{split_inclusive_rest}
 use Rattle.std.specs.Iterator.Adapters.{enumerate_source, take_source, take_count}
@@ -13,8 +12,8 @@ use Rattle.std.specs.List.{IsFirstMatchOrLen}
 use Rattle.std.proofs.lemmas.List.Sorted.{answers_always}
 use Rattle.consts.specs.Refusal.{code}
 use Rattle.bbox.specs.Reading.{read_of}
-use Rattle.box_lines.specs.Lines.{Fault, line_of}
-use Rattle.box_lines.proofs.Cuts.{newline, Part, part, trimmed}
+use Rattle.box_lines.specs.Lines.{Fault}
+use Rattle.box_lines.proofs.Cuts.{newline, cut-line}
 use Rattle.box_lines.proofs.Held.{room, good, bad, over, ends}
 use Rattle.box_lines.proofs.gather.gather.Goals as goal
 
@@ -44,12 +43,10 @@ loop-k-preserved c =
     let u : List ℕ = split_inclusive_rest (take_source (enumerate_source c.loop-k.k-iterator)) in
     let t : List ℕ = split_inclusive_rest (take_source (enumerate_source c.next.new.self)) in
     let f : IsFirstMatchOrLen newline u w.1.0 = (w.1.2 newline (answers_always _ _ _ (λ f a r g h. search rules))).1 in
-    let p : Part u c.in-Some.line.now t = part u c.in-Some.line.now t w.0 w.1.0 f w.2 w.1.1 in
-    let e : c.unwrap_or.result.now ≡ line_of u =
-    ap (λ (b : Bor (List ℕ)). b.now) c.unwrap_or.ensures ∙ trimmed p c.strip_suffix.result c.in-Some.line refl c.strip_suffix.ensures.cases in
+    let q = cut-line u _ t w.0 w.1.0 w.1.1 f w.2 c.strip_suffix.result c.in-Some.line refl c.strip_suffix.ensures.cases _ c.unwrap_or.ensures in
     let n : take_count (enumerate_source c.into_iter-k-iterator.result) ≡ take_count c.take.result = cc in
     let k : c.in-Some.k < 512 = omega (arith, z.1, z.0.1, c.loop-k.invariant.1, n, c.take.ensures.count) in (
-      good _ _ _ _ c.loop-k.invariant.0 c.in-Ok.b _ _ _ w.2 (omega (arith, z.1, k)) (c.in-Ok.ensures ∙ ap read_of e) c.add.ensures p.rest z.2,
+      good _ _ _ _ c.loop-k.invariant.0 c.in-Ok.b _ _ _ w.2 (omega (arith, z.1, k)) (c.in-Ok.ensures ∙ ap read_of q.1) c.add.ensures q.0 z.2,
       omega (arith, z.2, z.0.1, c.loop-k.invariant.1),
       omega (arith, c.loop-k.invariant.2, ap length w.0, length-append c.in-Some.line.now t),
     )
@@ -61,12 +58,10 @@ returns-in-Err-clause-fault c =
     let u : List ℕ = split_inclusive_rest (take_source (enumerate_source c.loop-k.k-iterator)) in
     let t : List ℕ = split_inclusive_rest (take_source (enumerate_source c.next.new.self)) in
     let f : IsFirstMatchOrLen newline u w.1.0 = (w.1.2 newline (answers_always _ _ _ (λ f a r g h. search rules))).1 in
-    let p : Part u c.in-Some.line.now t = part u c.in-Some.line.now t w.0 w.1.0 f w.2 w.1.1 in
-    let e : c.unwrap_or.result.now ≡ line_of u =
-    ap (λ (b : Bor (List ℕ)). b.now) c.unwrap_or.ensures ∙ trimmed p c.strip_suffix.result c.in-Some.line refl c.strip_suffix.ensures.cases in
+    let q = cut-line u _ t w.0 w.1.0 w.1.1 f w.2 c.strip_suffix.result c.in-Some.line refl c.strip_suffix.ensures.cases _ c.unwrap_or.ensures in
     let n : take_count (enumerate_source c.into_iter-k-iterator.result) ≡ take_count c.take.result = cc in
     let k : c.in-Some.k < 512 = omega (arith, z.1, z.0.1, c.loop-k.invariant.1, n, c.take.ensures.count) in
-    let b = bad _ _ _ _ c.loop-k.invariant.0 c.in-Err.refusal w.2 (omega (arith, z.1, k)) (c.in-Err.ensures ∙ ap read_of e) in
+    let b = bad _ _ _ _ c.loop-k.invariant.0 c.in-Err.refusal w.2 (omega (arith, z.1, k)) (c.in-Err.ensures ∙ ap read_of q.1) in
     (b ∙ ap (λ (n : ℕ). Fault (code c.in-Err.refusal) (n + 1)) (sym z.1), omega (arith, k))
 
 pub returns-clause-boxes : goal.returns-clause-boxes
